@@ -1,0 +1,5 @@
+pub mod Cuts
+pub mod Numbers
+pub mod Laws
+pub mod Loops
+pub mod Places

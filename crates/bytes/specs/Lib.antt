@@ -1,0 +1,4 @@
+pub mod Numbers
+pub mod Field
+pub mod Reads
+pub mod Puts

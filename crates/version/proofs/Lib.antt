@@ -1,0 +1,5 @@
+mod Shapes
+mod SlotLaws
+mod OrderLaws
+mod LayoutLaws
+mod Writing

@@ -1,0 +1,6 @@
+use mathlib.Core.Path.{sym}
+use Rattle.version.proofs.SlotLaws.{slots-length}
+use Rattle.version.proofs.version.Version.size.Needs as need
+
+pub returns : need.returns
+returns c = sym (slots-length (c .args .self .now))
