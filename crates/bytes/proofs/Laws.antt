@@ -10,7 +10,7 @@ use Rattle.std.specs.declared.result.Result.{Result}
 use Rattle.std.specs.declared.result.Result.the-variants.{Ok, Err}
 use Rattle.std.proofs.shelf.Lists.{append-assoc, append-nil, getD-append-add, take-at, drop-at, take-append-drop, length-take-le, length-append}
 use Rattle.bytes.specs.Numbers.{Bytes, number, big-endian}
-use Rattle.bytes.specs.Field.{Got, good, bad, next, Field, cut, numeral, span, checked, only, _then_, shaped, put-all, get-all, Good-all, times, ended, whole, read, Undoes}
+use Rattle.bytes.specs.Field.{Got, good, bad, next, Field, cut, nothing, numeral, span, checked, only, _then_, from-start, joint, shaped, put-all, get-all, Good-all, times, ended, whole, read, Undoes}
 use Rattle.bytes.proofs.Cuts.{cut-good}
 use Rattle.bytes.proofs.Numbers.{length-big-endian, number-big-endian, big-endian-number}
 
@@ -46,6 +46,9 @@ bytes-front bs [] rest e h k = omega arith
 bytes-front bs (x ∷ xs) rest e h zero = let b = h 0 in rw e at b
 bytes-front [] (x ∷ xs) rest e h (suc k) = let z : _≡_ {A = ℕ} 0 1 = cc in absurd (omega arith)
 bytes-front (b ∷ bs) (x ∷ xs) rest e h (suc k) = let t : bs ≡ xs ++ rest = cc in bytes-front bs xs rest t (λ i. h (suc i)) k
+
+pub nothing-law : Lawful nothing
+nothing-law = record { there = λ a rest h. refl; back = λ bs a rest h e. (cc, tt) }
 
 pub span-law : (size : ℕ) → Lawful (span size)
 span-law size = record {
@@ -100,6 +103,16 @@ then-law {A} {B} {f} {g} F G = record {
         let z : s ≡ rest = cc in
         let P : A × B → Type 0 = λ p. (bs ≡ (f then g) .put p ++ rest) × (f then g) .Good p in
         subst P q (x .0 ∙ rw (y .0, z, append-assoc (f .put a) (g a .put b) rest), (x .1, y .1))
+
+pub joint-law : {A : Type 0} {f : Field A} → Lawful f → Lawful (joint f)
+joint-law {A} {f} F = record {
+  there = λ a rest h. rw (F .there a rest h);
+  back = λ bs a rest h e. F .back bs a rest h (inner (f .get bs) (length bs) e);
+}
+  where
+    inner : (m : Got A) (left : ℕ) {a : A} {rest : List ℕ} → from-start left m ≡ good a rest → m ≡ good a rest
+    inner (good b r) left e = e
+    inner (bad l) left e = never e
 
 pub shaped-law : {A B : Type 0} (to : A → B) (from : B → A) {f : Field A} → Lawful f → ((a : A) → f .Good a → from (to a) ≡ a) → Lawful (shaped to from f)
 shaped-law {A} {B} to from {f} F iso = record {

@@ -40,6 +40,10 @@ numeral width = record {
 abbrev pub span : ℕ → Field (List ℕ)
 span size = record { put = λ bs. bs; get = λ bs. cut size (take size bs) bs; Good = λ bs. length bs ≡ size }
 
+-- no bytes at all
+abbrev pub nothing : Field (Unit {0})
+nothing = record { put = λ _. []; get = λ bs. good tt bs; Good = λ _. Unit {0} }
+
 -- a field whose value passes a test: any other value makes it bad
 abbrev pub checked : {A : Type 0} → (A → Bool) → ℕ → A → List ℕ → Got A
 checked test left a rest = cond (test a) (good a rest) (bad left)
@@ -60,6 +64,14 @@ _then_ f g = record {
 }
 
 infixr 20 _then_
+-- fields that count as one: whatever is bad or incomplete within it makes all of it bad
+abbrev pub from-start : {A : Type 0} → ℕ → Got A → Got A
+from-start left (good a rest) = good a rest
+from-start left (bad _) = bad left
+
+abbrev pub joint : {A : Type 0} → Field A → Field A
+joint f = record { put = f .put; get = λ bs. from-start (length bs) (f .get bs); Good = f .Good }
+
 -- the same bytes for values of another type
 abbrev pub shaped : {A B : Type 0} → (A → B) → (B → A) → Field A → Field B
 shaped to from f = record {

@@ -1,5 +1,5 @@
 mod Shapes
 mod SlotLaws
 mod OrderLaws
-mod LayoutLaws
+pub mod LayoutLaws
 mod Writing

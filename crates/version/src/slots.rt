@@ -9,7 +9,7 @@ ghost use Rattle.std.specs.declared.option.Option.the-variants.{None};
 ghost use Rattle.std.specs.Options.{isSome};
 ghost use Rattle.version.specs.Calls.{Zero, Timestamp, Digest, Raises, Placed};
 ghost use Rattle.version.specs.Order.{slot-with};
-ghost use Rattle.version.specs.Shape.{digest-bytes};
+ghost use Rattle.version.specs.Shape.{Size, digest-bytes};
 ghost use Rattle.version.specs.Version.{slots};
 use super::refusal::Refusal;
 use super::version::Version;
@@ -34,7 +34,8 @@ impl Version {
 
     /// How many sites the group has.
     pub fn size(&self) -> u8
-        ensures { λ r. ⌜ r ≡ length (slots (now (self .entry))) ⌝ }
+        ensures value { λ r. ⌜ r ≡ length (slots (now (self .entry))) ⌝ }
+        ensures range { λ r. ⌜ Size r ⌝ }
     {
         self.size
     }
