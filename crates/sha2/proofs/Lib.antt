@@ -1,0 +1,5 @@
+pub mod Choice
+pub mod Lanes
+pub mod Padded
+pub mod Pieces
+pub mod Rounds
