@@ -1,0 +1,4 @@
+mod Counts
+mod Totals
+mod Grown
+mod Named
