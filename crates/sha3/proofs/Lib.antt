@@ -1,0 +1,3 @@
+pub mod Constants
+pub mod Lanes
+pub mod Padding

@@ -1,0 +1,4 @@
+pub mod Keccak
+pub mod Published
+pub mod Sha3
+pub mod Stream
