@@ -47,7 +47,7 @@ puts-length {bs} {start} {was} {is} {end} p =
     ap length (p .after) ∙ simp (length-append, length-drop, length-take-le start was (omega arith)) (omega arith)
 
 -- a loop that writes fields of one kind
-put-all-push : {A : Type 0} (f : Field A) (xs : List A) (a : A) → put-all f (xs ++ a ∷ []) ≡ put-all f xs ++ f .put a
+pub put-all-push : {A : Type 0} (f : Field A) (xs : List A) (a : A) → put-all f (xs ++ a ∷ []) ≡ put-all f xs ++ f .put a
 put-all-push f [] a = append-nil (f .put a)
 put-all-push f (x ∷ xs) a = ap (λ (r : List ℕ). f .put x ++ r) (put-all-push f xs a) ∙ sym (append-assoc (f .put x) (put-all f xs) (f .put a))
 

@@ -1,0 +1,13 @@
+pub mod Code
+pub mod Commit
+pub mod Fields
+pub mod Heads
+pub mod Places
+pub mod Reads
+pub mod Refusals
+pub mod Replied
+pub mod Reply
+pub mod Slots
+pub mod Strings
+pub mod Submit
+pub mod Writes
