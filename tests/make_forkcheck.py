@@ -1,7 +1,7 @@
 #!/usr/bin/env python3
 """Writes crates/forkcheck/stdin and stdout: pairs of versions in bytes, and how they compare.
 
-The answers are worked out here, from docs/FORMAT.md and docs/RULES.md, and not by the program that is tested.
+The answers are worked out here, by other code than the program's. Both follow one reading of the format.
 """
 import hashlib
 import pathlib

@@ -1,7 +1,7 @@
 #!/usr/bin/env python3
 """Writes crates/inspect/stdin and stdout: good and damaged messages, and what they say or where they do not read.
 
-The answers are worked out here, from docs/FORMAT.md, and not by the program that is tested.
+The answers are worked out here, by other code than the program's. Both follow one reading of the format.
 """
 import pathlib
 import random
