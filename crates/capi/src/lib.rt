@@ -1,4 +1,5 @@
 //! The digests for callers in C and Rust. A `&[u8]` is passed as a pointer and then a length.
+#![tactic(auto)]
 
 ghost use Rattle.std.specs.Prelude.{◌≡◌, List, [], ◌++◌, ℕ};
 ghost use Rattle.sha256.specs.Sha256.{sha256};

@@ -1,4 +1,5 @@
 //! What a digest is, and the laws of hash functions that take their message block by block.
+#![tactic(auto)]
 
 ghost use Rattle.std.specs.Prelude.{◌≡◌, ℕ, ◌<◌, List, length, slice_index};
 

@@ -1,4 +1,5 @@
 //! Compares saved versions: reads lines `SIZE HEX SIZE HEX`, two versions with their group sizes, and answers each by a line.
+#![tactic(auto)]
 
 mod answer;
 mod check;

@@ -1,4 +1,5 @@
 //! Bytes in text: two lower-case hexadecimal digits a byte, and a full stop for no bytes.
+#![tactic(auto)]
 
 ghost use Rattle.std.specs.Prelude.{◌≡◌, ℕ, ◌<◌, IfOk, string_bytes};
 ghost use Rattle.hex_text.specs.Hex.{digit as digit_of, text_of, Value, Decodes};

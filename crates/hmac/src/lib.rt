@@ -1,4 +1,5 @@
 //! HMAC-SHA-256 (RFC 2104), alone and as a signature scheme.
+#![tactic(auto)]
 
 ghost use Rattle.std.specs.Prelude.{◌≡◌};
 ghost use Rattle.hmac.specs.Hmac.{hmac_sha256};

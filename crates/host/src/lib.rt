@@ -1,4 +1,5 @@
 //! The host of a register group: it takes submits and commits, over any store.
+#![tactic(auto)]
 
 mod check;
 mod commit;

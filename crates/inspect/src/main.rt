@@ -1,5 +1,6 @@
 //! Shows what messages say: reads lines `KIND N G HEX`, a message of a group of N sites with signatures of G bytes, and answers each
 //! by a line.
+#![tactic(auto)]
 
 mod line;
 mod parts;

@@ -1,4 +1,5 @@
 //! Messages between sites and their host, read from bytes and written to them, and the strings that sites sign.
+#![tactic(auto)]
 
 mod code;
 mod commit;

@@ -1,4 +1,5 @@
 //! Tests of the writers of messages, in a crate of their own so that the messages are not proved again with them.
+#![tactic(auto)]
 
 #[cfg(test)]
 mod tests {

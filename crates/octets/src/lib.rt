@@ -3,6 +3,8 @@
 //! A reader is a function from a slice to a value and the rest, so that readers chain by `?`.
 //! A writer takes the place to write at and answers where it ended, so that writers chain by places.
 
+#![tactic(auto)]
+
 ghost use Rattle.std.specs.Prelude.{◌≡◌, ℕ, List, [], ◌∷◌, Decides};
 ghost use Rattle.octets.specs.Field.{numeral, span};
 ghost use Rattle.octets.specs.Numbers.{big_endian};

@@ -2,6 +2,7 @@
 //!
 //! [`start`] makes the host and each site once, over any signature scheme, digest and store. A deployment takes the parts
 //! of the [`Group`] apart and puts each on its own machine.
+#![tactic(auto)]
 
 mod group;
 mod starting;

@@ -2,6 +2,7 @@
 //!
 //! `specs/` has one relation for each call, and the contracts of sites and hosts cite them. The code here is what those
 //! relations speak of: the refusals, the stops and the phases of a site.
+#![tactic(auto)]
 
 mod fault;
 mod law;

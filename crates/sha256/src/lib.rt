@@ -1,4 +1,5 @@
 //! SHA-256 (FIPS 180-4).
+#![tactic(auto)]
 
 ghost use Rattle.std.specs.Prelude.{◌≡◌, ◌++◌};
 ghost use Rattle.std.proofs.Math.Path.{refl};

@@ -1,4 +1,5 @@
 //! SHA3-256 (FIPS 202): of bytes in one slice, in two, or in pieces one after the other.
+#![tactic(auto)]
 
 ghost use Rattle.std.specs.Prelude.{◌≡◌, ◌++◌};
 ghost use Rattle.std.proofs.Math.Path.{refl};

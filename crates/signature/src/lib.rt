@@ -3,6 +3,7 @@
 //!
 //! Code that signs and checks is written against [`Scheme`] and holds for every kind of scheme, also for one that has
 //! nothing left from birth, as [`Spent`].
+#![tactic(auto)]
 
 mod at;
 mod limits;

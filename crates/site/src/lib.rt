@@ -1,6 +1,7 @@
 //! A site of a register group: it begins its operations, one at a time, and finishes or abandons each.
 //!
 //! A begun operation is held as a [`Ticket`], which cannot be copied or let go: it is given back to the site.
+#![tactic(auto)]
 
 mod abandon;
 mod access;

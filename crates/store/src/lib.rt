@@ -1,4 +1,5 @@
 //! Register stores: for each site a value slot and a version slot, known by what they mean.
+#![tactic(auto)]
 
 mod check;
 mod fault;

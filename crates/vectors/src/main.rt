@@ -1,4 +1,5 @@
 //! Answers each line of standard input with a line: the digest that it asks for.
+#![tactic(auto)]
 
 use std::io;
 use std::io::{BufRead, BufReader};

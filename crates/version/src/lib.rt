@@ -1,4 +1,5 @@
 //! Versions: what a site has seen of the others, and how two of them stand to each other.
+#![tactic(auto)]
 
 mod compare;
 mod layout;
