@@ -19,7 +19,7 @@ loop-place-preserved c =
     let u = c.args.self.now in
     let v = c.args.other.now in
     let i = c.loop-place.place in
-    let one = c.compare-slots-is-below.ensures in (
+    let one = c.compare_slots-is_below.ensures in (
       below_site (λ k. SlotAtOrBelow (slot_of u k) (slot_of v k)) i _ _ c.loop-place.invariant.0 one.below,
       below_site (λ k. SlotAtOrBelow (slot_of v k) (slot_of u k)) i _ _ c.loop-place.invariant.1 one.above,
     )
@@ -34,4 +34,4 @@ returns c =
     let b = below_all u v c.loop-place.below i c.if-self-other.false (omega arith) c.loop-place.invariant.0 in
     let a = below_all v u c.loop-place.above i (sym c.if-self-other.false) (omega arith) c.loop-place.invariant.1 in
     let answers = stands at_or_below_laws (slots u) (slots v) c.loop-place.below c.loop-place.above b a in
-    record { answer = (omega arith, rw c.order-by.ensures answers); lawful = at_or_below_laws; one_form = one_form; examples = examples }
+    record { answer = (omega arith, rw c.order_by.ensures answers); lawful = at_or_below_laws; one_form = one_form; examples = examples }

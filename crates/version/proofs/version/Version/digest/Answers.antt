@@ -4,5 +4,5 @@ use Rattle.version.proofs.version.Version.digest.Goals as goal
 
 pub returns : goal.returns
 returns c =
-    let p = c.in-ok-place.ensures in
-    (p.0, c.digest-at.ensures ∙ ap (λ s. s.digest) (slot_here c.args.self.now c.args.site _ p.0 p.1))
+    let p = c.in_ok-place.ensures in
+    (p.0, c.digest_at.ensures ∙ ap (λ s. s.digest) (slot_here c.args.self.now c.args.site _ p.0 p.1))

@@ -11,27 +11,27 @@ pub returns-then-out-end : goal.returns-then-out-end
 returns-then-out-end c =
     let n = slots_length c.args.self.now in
     let l = version-length c.args.self.now in
-    (omega (arith, c.in-ok-end.ensures), refl)
+    (omega (arith, c.in_ok-end.ensures), refl)
 
 pub loop-place-init : goal.loop-place-init
-loop-place-init c = (omega arith, puts_none c.args.start c.args.out.now (omega (arith, c.in-ok-end.ensures)))
+loop-place-init c = (omega arith, puts_none c.args.start c.args.out.now (omega (arith, c.in_ok-end.ensures)))
 
-pub returns-in-err-at : goal.returns-in-err-at
-returns-in-err-at c =
+pub returns-in_err-at : goal.returns-in_err-at
+returns-in_err-at c =
     let m = puts_length c.loop-place.invariant.1 in
     let s = c.loop-place.invariant.0 in
-    let b = c.in-err-at.ensures in
-    absurd (omega (arith, c.in-ok-end.ensures))
+    let b = c.in_err-at.ensures in
+    absurd (omega (arith, c.in_ok-end.ensures))
 
 pub loop-place-preserved : goal.loop-place-preserved
 loop-place-preserved c =
     let v = c.args.self.now in
     let i = c.loop-place.place in
-    let q = c.in-ok-at.ensures in
+    let q = c.in_ok-at.ensures in
     let s = c.loop-place.invariant.0 in
     let e = q.ends in
     let l = slot_at-length v i in
-    (omega arith, slots_more v i c.args.start c.loop-place.at c.in-ok-at.at c.args.out.now c.loop-place.out c.put-slot.new.out c.loop-place-test.true c.loop-place.invariant.1 q)
+    (omega arith, slots_more v i c.args.start c.loop-place.at c.in_ok-at.at c.args.out.now c.loop-place.out c.put_slot.new.out c.loop-place-test.true c.loop-place.invariant.1 q)
 
 pub returns : goal.returns
 returns c =

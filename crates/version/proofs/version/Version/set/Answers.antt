@@ -3,8 +3,8 @@ use Rattle.version.proofs.Shapes.{small_set, told_set, bounded_set, wide_set}
 use Rattle.version.proofs.SlotLaws.{slots_set}
 use Rattle.version.proofs.version.Version.set.Goals as goal
 
-pub invariant-of-self : goal.invariant-of-self
-invariant-of-self c =
+pub invariant_of-self : goal.invariant_of-self
+invariant_of-self c =
     let v = c.args.self.now in
     let few = v.sized.1 in
     let k = c.args.place in

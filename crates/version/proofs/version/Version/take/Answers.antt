@@ -12,23 +12,23 @@ use Rattle.version.proofs.version.Version.take.Goals as goal
 pub loop-place-init : goal.loop-place-init
 loop-place-init c = (refl, left_none slot_field c.args.self.size c.args.bytes.now)
 
-pub returns-in-err-timestamp : goal.returns-in-err-timestamp
-returns-in-err-timestamp c =
-    let p = err_from_is_err_and c.from-residual.result c.from-residual.ensures.1 in
+pub returns-in_err-timestamp : goal.returns-in_err-timestamp
+returns-in_err-timestamp c =
+    let p = err_from_is_err_and c.from_residual.result c.from_residual.ensures.1 in
     let n = c.loop-place.invariant.0 in
-    let b = stamp_bad _ c.loop-place.rest.now c.in-err-timestamp.ensures in
+    let b = stamp_bad _ c.loop-place.rest.now c.in_err-timestamp.ensures in
     rw (p.1, p.2, slots_length c.args.self) (left_bad slot_field c.args.self.size c.args.bytes.now c.loop-place.place _ c.loop-place.rest.now _ (omega arith) c.loop-place.invariant.1 b)
 
-pub returns-in-err-digest : goal.returns-in-err-digest
-returns-in-err-digest c =
-    let p = err_from_is_err_and c.from-residual-in-err-digest.result c.from-residual-in-err-digest.ensures.1 in
+pub returns-in_err-digest : goal.returns-in_err-digest
+returns-in_err-digest c =
+    let p = err_from_is_err_and c.from_residual-in_err-digest.result c.from_residual-in_err-digest.ensures.1 in
     let n = c.loop-place.invariant.0 in
-    let b = slot_bad _ _ c.loop-place.rest.now _ c.in-ok-timestamp.ensures c.in-err-digest.ensures.got in
+    let b = slot_bad _ _ c.loop-place.rest.now _ c.in_ok-timestamp.ensures c.in_err-digest.ensures.got in
     rw (p.1, p.2, slots_length c.args.self) (left_bad slot_field c.args.self.size c.args.bytes.now c.loop-place.place _ c.loop-place.rest.now _ (omega arith) c.loop-place.invariant.1 b)
 
 pub set-requires : goal.set-requires
 set-requires c =
-    let d = c.in-ok-digest.ensures.told in
+    let d = c.in_ok-digest.ensures.told in
     let n = c.loop-place.invariant.0 in
     record { within = omega arith; told = d.0; wide = d.1 }
 
@@ -38,8 +38,8 @@ loop-place-preserved c =
     let i = c.loop-place.place in
     let n = c.loop-place.invariant.0 in
     let m = slots_length v in
-    let s = slot_with c.in-ok-timestamp.timestamp c.in-ok-digest.digest in
-    let g = slot_got _ _ c.loop-place.rest.now _ _ c.in-ok-timestamp.ensures c.in-ok-digest.ensures.got in
+    let s = slot_with c.in_ok-timestamp.timestamp c.in_ok-digest.digest in
+    let g = slot_got _ _ c.loop-place.rest.now _ _ c.in_ok-timestamp.ensures c.in_ok-digest.ensures.got in
     let l = left_more slot_field c.args.self.size c.args.bytes.now i (take i (slots v)) c.loop-place.rest.now s _ (omega arith) c.loop-place.invariant.1 g in
     (c.set.ensures.size ∙ n, rw (c.set.ensures.slots, take_more_set (slots v) i s (omega arith)) l)
 
@@ -49,4 +49,4 @@ returns c =
     let n = c.loop-place.invariant.0 in
     let m = slots_length v in
     let l = left_all slot_field c.args.self.size c.args.bytes.now c.loop-place.place (take c.loop-place.place (slots v)) c.loop-place.rest.now (omega arith) c.loop-place.invariant.1 in
-    taken c.args.self v c.args.bytes.now c.loop-place.rest.now n (λ k. (c.type-inv.bytes k).fits) (rw (take_all c.loop-place.place (slots v) (omega arith)) at l)
+    taken c.args.self v c.args.bytes.now c.loop-place.rest.now n (λ k. (c.ok.bytes k).fits) (rw (take_all c.loop-place.place (slots v) (omega arith)) at l)
