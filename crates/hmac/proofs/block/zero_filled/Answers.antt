@@ -9,4 +9,4 @@ fills part is same =
     rw (same, n, drop-replicate {X = ℕ} (length part) 64 0)
 
 pub returns : goal.returns
-returns c = fills c.args.part.now c.copy-from-slice.new.self c.copy-from-slice.ensures.after
+returns c = fills c.args.part.now c.copy_from_slice.new.self c.copy_from_slice.ensures.after

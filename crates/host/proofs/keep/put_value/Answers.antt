@@ -7,7 +7,7 @@ pub unreachable-requires : goal.unreachable-requires
 unreachable-requires c =
     let m = value_stored c.args.parts.now in
     let k = value_slot_size 0 m c.requires.value c.requires.signature in
-    never_refused (value_slot 0) m _ c.args.room.now _ _ c.requires.value (omega arith) (c.in-default.ensures 0)
+    never_refused (value_slot 0) m _ c.args.room.now _ _ c.requires.value (omega arith) (c.in_default.ensures 0)
 
 pub returns : goal.returns
 returns c =

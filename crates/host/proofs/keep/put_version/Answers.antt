@@ -7,7 +7,7 @@ pub unreachable-requires : goal.unreachable-requires
 unreachable-requires c =
     let m = c.args.parts.now in
     let k = version_slot_size 0 0 m.version.now _ _ c.requires.commit c.requires.proof in
-    never_refused (version_slot 0 0) (version_stored m) ⊥ c.args.room.now _ _ (λ z. z) (omega arith) (c.in-default.ensures 0 0)
+    never_refused (version_slot 0 0) (version_stored m) ⊥ c.args.room.now _ _ (λ z. z) (omega arith) (c.in_default.ensures 0 0)
 
 pub returns : goal.returns
 returns c =

@@ -8,6 +8,6 @@ returns c =
     record {
       whole = search (rules, places);
       within = omega arith;
-      rest = released c.args.list.now c.copy-from-slice.new.self _ c.args.count c.through-last-start.result c.args.site (omega arith)
-          c.copy-from-slice.ensures.after c.through-last-start.ensures.rest;
+      rest = released c.args.list.now c.copy_from_slice.new.self _ c.args.count c.through_last-start.result c.args.site (omega arith)
+          c.copy_from_slice.ensures.after c.through_last-start.ensures.rest;
     }

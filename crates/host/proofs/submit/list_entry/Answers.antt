@@ -4,5 +4,5 @@ use Rattle.host.proofs.submit.list_entry.Goals as goal
 
 pub returns : goal.returns
 returns c =
-    entry-signed c.args.submit.now.site c.args.submit.now.code c.args.submit.now.register c.args.g c.copy-from-slice.new.self _ _
-    (c.copy-from-slice.ensures.after ∙ c.bytes-at.ensures.value) c.requires.signed
+    entry-signed c.args.submit.now.site c.args.submit.now.code c.args.submit.now.register c.args.g c.copy_from_slice.new.self _ _
+    (c.copy_from_slice.ensures.after ∙ c.bytes_at.ensures.value) c.requires.signed

@@ -20,4 +20,4 @@ pub returns-in-len8 : goal.returns-in-len8
 returns-in-len8 c =
     let g = c.args.signature.now in
     let long : length g ≡ 8 = search rules in
-    placed g c.from-be-bytes-serial.result c.checked-sub.result long (spelled g _ long (omega (arith, c.from-be-bytes-serial.ensures))) c.checked-sub.ensures
+    placed g c.from_be_bytes-serial.result c.checked_sub.result long (spelled g _ long (omega (arith, c.from_be_bytes-serial.ensures))) c.checked_sub.ensures

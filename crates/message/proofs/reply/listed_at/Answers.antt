@@ -9,23 +9,23 @@ use Rattle.message.proofs.reply.listed_at.Goals as goal
 pub loop-i-init : goal.loop-i-init
 loop-i-init c = (refl, left_none (entry c.args.n c.args.g) c.args.count (drop c.args.start c.args.bytes.now))
 
-pub returns-in-err-entry : goal.returns-in-err-entry
-returns-in-err-entry c =
-    let p = err_from_is_err_and c.from-residual.result c.from-residual.ensures.1 in
+pub returns-in_err-entry : goal.returns-in_err-entry
+returns-in_err-entry c =
+    let p = err_from_is_err_and c.from_residual.result c.from_residual.ensures.1 in
     rw (p.1, p.2) (left_bad (entry c.args.n c.args.g) c.args.count (drop c.args.start c.args.bytes.now) c.loop-i.i _ (drop c.loop-i.at c.args.bytes.now) _
-    c.loop-i-test.true c.loop-i.invariant.1 c.in-err-entry.ensures)
+    c.loop-i-test.true c.loop-i.invariant.1 c.in_err-entry.ensures)
 
 pub loop-i-preserved : goal.loop-i-preserved
 loop-i-preserved c =
     let i = c.loop-i.i in
-    let e = c.in-ok-entry.entry in
+    let e = c.in_ok-entry.entry in
     let xs = c.loop-i.items in
     let of = listed c.args.g c.args.bytes.now in
     let l = c.loop-i.invariant.0 in
     let more = ap (map of) (take_more_set xs i e (omega arith)) ∙ map_push of (take i xs) e in (
       length-set xs i e ∙ l,
       rw more (left_more (entry c.args.n c.args.g) c.args.count (drop c.args.start c.args.bytes.now) i _ (drop c.loop-i.at c.args.bytes.now) (of e) _
-          c.loop-i-test.true c.loop-i.invariant.1 c.in-ok-entry.ensures),
+          c.loop-i-test.true c.loop-i.invariant.1 c.in_ok-entry.ensures),
     )
 
 pub returns : goal.returns

@@ -5,25 +5,25 @@ use Rattle.message.proofs.reply_parts.put_entries.Goals as goal
 
 pub loop-entry-init : goal.loop-entry-init
 loop-entry-init c =
-    let p = c.in-ok-at.ensures in
+    let p = c.in_ok-at.ensures in
     let l = puts_length p in
     let w = p.room in
-    (omega arith, puts_none c.in-ok-at.at c.put-u8.new.out (omega arith))
+    (omega arith, puts_none c.in_ok-at.at c.put_u8.new.out (omega arith))
 
-pub returns-in-err-at-2 : goal.returns-in-err-at-2
-returns-in-err-at-2 c =
-    let p = c.in-ok-at.ensures in
+pub returns-in_err-at-2 : goal.returns-in_err-at-2
+returns-in_err-at-2 c =
+    let p = c.in_ok-at.ensures in
     let e = p.ends in
     let l = puts_length p in
     let m = puts_length c.loop-entry.invariant.1 in
     let b = c.loop-entry.invariant.0 in
-    let s = c.in-err-at-2.ensures in
-    rw c.from-residual-in-err-at-2.ensures (omega arith)
+    let s = c.in_err-at-2.ensures in
+    rw c.from_residual-in_err-at-2.ensures (omega arith)
 
 pub loop-entry-preserved : goal.loop-entry-preserved
 loop-entry-preserved c =
-    let q = c.in-ok-at-2.ensures in
+    let q = c.in_ok-at-2.ensures in
     list_more c.args.g c.args.entries.now c.loop-entry.entry-index _ (omega arith) c.requires.0 c.loop-entry.invariant.0 c.loop-entry.invariant.1 q
 
 pub returns : goal.returns
-returns c = rw (list_all c.args.g c.args.entries.now c.loop-entry.entry-index (omega arith)) at (c.in-ok-at.ensures ⨾ c.loop-entry.invariant.1)
+returns c = rw (list_all c.args.g c.args.entries.now c.loop-entry.entry-index (omega arith)) at (c.in_ok-at.ensures ⨾ c.loop-entry.invariant.1)

@@ -5,7 +5,7 @@ use Rattle.register.proofs.starting.all_sites.Goals as goal
 
 pub loop-before-preserved : goal.loop-before-preserved
 loop-before-preserved c =
-    let pushed = c.push-reserved.ensures in
+    let pushed = c.push_reserved.ensures in
     let old = c.loop-before.invariant in (
       omega (arith, pushed.len, old.0),
       omega (arith, pushed.capacity, old.1),

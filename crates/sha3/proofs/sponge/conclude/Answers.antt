@@ -21,8 +21,8 @@ returns c =
     let l : length last ≡ 136 = length-append rest (padding (length rest)) ∙ omega (arith, padding-length (length rest), c.absorb-rest.ensures.len) in
     c.squeeze.ensures
     ∙ ap squeezed
-    (c.absorb-block.ensures
-    ∙ ap (step state) c.last-block.ensures
+    (c.absorb_block.ensures
+    ∙ ap (step state) c.last_block.ensures
     ∙ one_block state last l
     ∙ ap (λ z. whole step 136 state (rest ++ z)) (padding_mod (length rest) (length bs) m)
     ∙ ap (λ z. whole step 136 state (z ++ pad)) c.absorb-rest.ensures.rest

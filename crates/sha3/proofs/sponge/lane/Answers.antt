@@ -3,4 +3,4 @@ use Rattle.sha3.proofs.sponge.lane.Goals as goal
 
 pub returns : goal.returns
 unfolding lane_of
-returns c = c.from-le-bytes.ensures
+returns c = c.from_le_bytes.ensures

@@ -9,5 +9,5 @@ returns-then-eq c =
     let bs = c.args.bytes.now in
     let m = c.in-Ok.reply in
     let read = c.in-Ok.ensures.reads.1 in
-    let well = well_read n g bs m (λ k. (c.type-inv.bytes k).fits) c.in-Ok.ensures.undoes read c.in-Ok.ensures.placed in
+    let well = well_read n g bs m (λ k. (c.type_inv.bytes k).fits) c.in-Ok.ensures.undoes read c.in-Ok.ensures.placed in
     reply-read n g c.args.code bs m read c.if-eq.ensures well.0 well.1

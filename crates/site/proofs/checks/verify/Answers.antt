@@ -5,9 +5,9 @@ use Rattle.site.proofs.Reading.{found-read}
 use Rattle.site.proofs.Verifying.{list_stops, own_member, own_below, found_stops, found_passes, none_passes}
 use Rattle.site.proofs.checks.verify.Goals as goal
 
-pub returns-in-err-running : goal.returns-in-err-running
-returns-in-err-running g c =
-    let q = err_from_is_err_and c.from-residual.result c.from-residual.ensures.1 in
+pub returns-in_err-running : goal.returns-in_err-running
+returns-in_err-running g c =
+    let q = err_from_is_err_and c.from_residual.result c.from_residual.ensures.1 in
     let len = g.S.Scheme.len in
     let H = g.D.Digest.means in
     let M = g.S.Scheme.means c.args.scheme.now in
@@ -16,9 +16,9 @@ returns-in-err-running g c =
     let r = c.args.register in
     let bs = c.args.bytes.now in
     let m = c.args.reply.now in
-    let signed = c.version-signed.ensures.0 c.if-not-version-signed.false in
+    let signed = c.version_signed.ensures.0 c.if-not-version_signed.false in
     let follows = c.follows.ensures.0 c.if-not-follows.false in
-    rw (q.1, q.2) (list_stops len H M i v r bs m signed follows (length v) c.requires.sizes _ c.in-err-running.ensures)
+    rw (q.1, q.2) (list_stops len H M i v r bs m signed follows (length v) c.requires.sizes _ c.in_err-running.ensures)
 
 pub rise-requires : goal.rise-requires
 rise-requires g c =
@@ -30,18 +30,18 @@ rise-requires g c =
     let r = c.args.register in
     let bs = c.args.bytes.now in
     let m = c.args.reply.now in
-    let signed = c.version-signed.ensures.0 c.if-not-version-signed.false in
+    let signed = c.version_signed.ensures.0 c.if-not-version_signed.false in
     let follows = c.follows.ensures.0 c.if-not-follows.false in
-    let w = c.in-ok-running.running in
-    let list = c.in-ok-running.ensures in
+    let w = c.in_ok-running.running in
+    let list = c.in_ok-running.ensures in
     record { member = own_member len H M i v r bs m signed follows (length v) c.requires.sizes w list c.requires.member; below = own_below len H M i v r bs m signed follows (length v) c.requires.sizes w list c.requires.below }
 
-pub check-found-requires : goal.check-found-requires
-check-found-requires g c = found-read g.S.Scheme.len c.args.bytes.now c.args.reply.now c.requires.read c.in-Some.found c.in-Some.is
+pub check_found-requires : goal.check_found-requires
+check_found-requires g c = found-read g.S.Scheme.len c.args.bytes.now c.args.reply.now c.requires.read c.in-Some.found c.in-Some.is
 
-pub returns-in-err-check-found : goal.returns-in-err-check-found
-returns-in-err-check-found g c =
-    let q = err_from_is_err_and c.from-residual-in-err-check-found.result c.from-residual-in-err-check-found.ensures.1 in
+pub returns-in_err-check_found : goal.returns-in_err-check_found
+returns-in_err-check_found g c =
+    let q = err_from_is_err_and c.from_residual-in_err-check_found.result c.from_residual-in_err-check_found.ensures.1 in
     let len = g.S.Scheme.len in
     let H = g.D.Digest.means in
     let M = g.S.Scheme.means c.args.scheme.now in
@@ -50,14 +50,14 @@ returns-in-err-check-found g c =
     let r = c.args.register in
     let bs = c.args.bytes.now in
     let m = c.args.reply.now in
-    let signed = c.version-signed.ensures.0 c.if-not-version-signed.false in
+    let signed = c.version_signed.ensures.0 c.if-not-version_signed.false in
     let follows = c.follows.ensures.0 c.if-not-follows.false in
-    let w = c.in-ok-running.running in
-    let list = c.in-ok-running.ensures in
-    rw (q.1, q.2) (found_stops len H M i v r bs m signed follows (length v) c.requires.sizes w list c.rise.new.self c.rise.ensures c.in-Some.found c.in-Some.is _ c.in-err-check-found.ensures)
+    let w = c.in_ok-running.running in
+    let list = c.in_ok-running.ensures in
+    rw (q.1, q.2) (found_stops len H M i v r bs m signed follows (length v) c.requires.sizes w list c.rise.new.self c.rise.ensures c.in-Some.found c.in-Some.is _ c.in_err-check_found.ensures)
 
-pub returns-in-ok-check-found : goal.returns-in-ok-check-found
-returns-in-ok-check-found g c =
+pub returns-in_ok-check_found : goal.returns-in_ok-check_found
+returns-in_ok-check_found g c =
     let len = g.S.Scheme.len in
     let H = g.D.Digest.means in
     let M = g.S.Scheme.means c.args.scheme.now in
@@ -66,14 +66,14 @@ returns-in-ok-check-found g c =
     let r = c.args.register in
     let bs = c.args.bytes.now in
     let m = c.args.reply.now in
-    let signed = c.version-signed.ensures.0 c.if-not-version-signed.false in
+    let signed = c.version_signed.ensures.0 c.if-not-version_signed.false in
     let follows = c.follows.ensures.0 c.if-not-follows.false in
-    let w = c.in-ok-running.running in
-    let list = c.in-ok-running.ensures in
-    found_passes len H M i v r bs m signed follows (length v) c.requires.sizes w list c.rise.new.self c.rise.ensures c.in-Some.found c.in-Some.is c.in-ok-check-found.ensures
+    let w = c.in_ok-running.running in
+    let list = c.in_ok-running.ensures in
+    found_passes len H M i v r bs m signed follows (length v) c.requires.sizes w list c.rise.new.self c.rise.ensures c.in-Some.found c.in-Some.is c.in_ok-check_found.ensures
 
-pub returns-in-default : goal.returns-in-default
-returns-in-default g c =
+pub returns-in_default : goal.returns-in_default
+returns-in_default g c =
     let len = g.S.Scheme.len in
     let H = g.D.Digest.means in
     let M = g.S.Scheme.means c.args.scheme.now in
@@ -82,8 +82,8 @@ returns-in-default g c =
     let r = c.args.register in
     let bs = c.args.bytes.now in
     let m = c.args.reply.now in
-    let signed = c.version-signed.ensures.0 c.if-not-version-signed.false in
+    let signed = c.version_signed.ensures.0 c.if-not-version_signed.false in
     let follows = c.follows.ensures.0 c.if-not-follows.false in
-    let w = c.in-ok-running.running in
-    let list = c.in-ok-running.ensures in
-    none_passes len H M i v r bs m signed follows (length v) c.requires.sizes w list c.rise.new.self c.rise.ensures c.in-default.is
+    let w = c.in_ok-running.running in
+    let list = c.in_ok-running.ensures in
+    none_passes len H M i v r bs m signed follows (length v) c.requires.sizes w list c.rise.new.self c.rise.ensures c.in_default.is

@@ -5,5 +5,5 @@ use Rattle.site.proofs.commit.place_version.Goals as goal
 pub unreachable-requires : goal.unreachable-requires
 unreachable-requires c =
     let n = version-length c.args.version.now in
-    let s = c.in-default.ensures.0 in
+    let s = c.in_default.ensures.0 in
     omega (arith, c.requires)

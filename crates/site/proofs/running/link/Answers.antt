@@ -4,7 +4,7 @@ use Rattle.site.proofs.running.link.Goals as goal
 
 pub returns-in-Some : goal.returns-in-Some
 returns-in-Some c =
-    (omega arith, linked_some _ c.in-Some.digest c.link-after.new.room c.args.site c.in-Some.is c.link-after.array_long c.link-after.ensures)
+    (omega arith, linked_some _ c.in-Some.digest c.link_after.new.room c.args.site c.in-Some.is c.link_after.array_long c.link_after.ensures)
 
 pub returns-in-None : goal.returns-in-None
 returns-in-None c = (omega arith, linked_none _ c.args.room.now c.args.site c.in-None.is c.told-room)

@@ -14,7 +14,7 @@ unknown line n (Err e) h = tt
 pub returns-in-None : goal.returns-in-None
 returns-in-None c =
     let line : List ℕ = c.args.line.now in
-    let some : length line ≡ 0 → ⊥ = eqb-false (length line) 0 (sym c.is-empty.ensures ∙ c.if-is-empty.false) in
-    let begins = starts_char 35 line c.starts-with.result c.starts-with.ensures.cases (lit< tt) (lit< tt) in
-    let plain : get_or line 0 0 ≡ 35 → ⊥ = λ e. clash (sym c.if-starts-with.false ∙ begins.1 e) in
-    unknown line (⊎_elim some plain) c.from-str-in-None.result c.from-str-in-None.ensures.ok
+    let some : length line ≡ 0 → ⊥ = eqb-false (length line) 0 (sym c.is_empty.ensures ∙ c.if-is_empty.false) in
+    let begins = starts_char 35 line c.starts_with.result c.starts_with.ensures.cases (lit< tt) (lit< tt) in
+    let plain : get_or line 0 0 ≡ 35 → ⊥ = λ e. clash (sym c.if-starts_with.false ∙ begins.1 e) in
+    unknown line (⊎_elim some plain) c.from_str-in-None.result c.from_str-in-None.ensures.ok

@@ -11,6 +11,6 @@ spelled word text o v t d e = sym t ∙ sym (subst (λ z. Decodes text (Ok z)) e
 pub returns : goal.returns
 returns c =
     let cut = split_parts 32 c.args.words.now (Some (c.in-Some.first, c.in-Some.second)) c.in-Some.ensures.cases (lit< tt) in
-    let front = spelled c.in-Some.first.now c.as-bytes.result.now c.in-ok-front.field-0 c.in-Some-2.front c.as-bytes.ensures.value c.in-ok-front.ensures c.in-Some-2.is in
-    let back = spelled c.in-Some.second.now c.as-bytes-2.result.now c.in-ok-back.field-0 c.in-Some-3.back c.as-bytes-2.ensures.value c.in-ok-back.ensures c.in-Some-3.is in
+    let front = spelled c.in-Some.first.now c.as_bytes.result.now c.in_ok-front.field-0 c.in-Some-2.front c.as_bytes.ensures.value c.in_ok-front.ensures c.in-Some-2.is in
+    let back = spelled c.in-Some.second.now c.as_bytes-2.result.now c.in_ok-back.field-0 c.in-Some-3.back c.as_bytes-2.ensures.value c.in_ok-back.ensures c.in-Some-3.is in
     cut.0 ∙ ap (λ z. z ++ 32 ∷ c.in-Some.second.now) front ∙ ap (λ z. text_of (vec_items c.in-Some-2.front) ++ 32 ∷ z) back

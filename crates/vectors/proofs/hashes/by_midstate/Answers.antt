@@ -8,6 +8,6 @@ pub returns : goal.returns
 returns c =
     let block : List ℕ = c.args.block.now in
     let n : length block ≡ 64 = omega arith in
-    let first : get_or c.as-chunks.result.0.now 0 [] ≡ block =
-    ap (λ z. get_or z 0 []) (c.as-chunks.ensures.front ∙ ap (λ k. first_chunks 64 (k / 64) block) n) ∙ take_all 64 block (omega arith) in
+    let first : get_or c.as_chunks.result.0.now 0 [] ≡ block =
+    ap (λ z. get_or z 0 []) (c.as_chunks.ensures.front ∙ ap (λ k. first_chunks 64 (k / 64) block) n) ∙ take_all 64 block (omega arith) in
     c.digest.ensures _ c.of.ensures ∙ ap (λ z. sha256 (z ++ c.args.rest.now)) first

@@ -8,4 +8,4 @@ abbrev pub invariant-loop-place : goal.invariant-loop-place
 invariant-loop-place t l =
     (length l.out ≡ 512)
     × ((k : ℕ) → k < l.place
-    → bytes_at l.out (0 + l.self.signature * k) l.self.signature ≡ (version_of l.self.size l.self.signature (t.T.Store.means l.self.store) (k + 1)).proof-signature)
+    → bytes_at l.out (0 + l.self.signature * k) l.self.signature ≡ (version_of l.self.size l.self.signature (t.T.Store.means l.self.store) (k + 1)).proof_signature)

@@ -11,17 +11,17 @@ returns-in-Read t c =
     let h = c.args.self.now in
     let a = c.args.submit.now in
     let m = t.T.Store.means h.store in
-    let w = said c.version-in-leader.result in
-    reply_is h.size h.signature (host_state h) m a.site a.register (value_stored c.args.new.now) c.args.out.now c.reply-read.new.out c.reply-read.result Read a.code w c.copy-proofs.new.out
-    c.in-Read.is (version-said h.size h.signature c.load-end.result c.load-end.new.room (m.slot Version h.committer) w c.version-in-leader.ensures.says c.load-end.ensures.1)
-    c.copy-proofs.ensures c.reply-read.ensures
+    let w = said c.version_in-leader.result in
+    reply_is h.size h.signature (host_state h) m a.site a.register (value_stored c.args.new.now) c.args.out.now c.reply_read.new.out c.reply_read.result Read a.code w c.copy_proofs.new.out
+    c.in-Read.is (version-said h.size h.signature c.load-end.result c.load-end.new.room (m.slot Version h.committer) w c.version_in-leader.ensures.says c.load-end.ensures.1)
+    c.copy_proofs.ensures c.reply_read.ensures
 
 pub returns-in-Write : goal.returns-in-Write
 returns-in-Write t c =
     let h = c.args.self.now in
     let a = c.args.submit.now in
     let m = t.T.Store.means h.store in
-    let w = said c.version-in-leader.result in
-    reply_is h.size h.signature (host_state h) m a.site a.register (value_stored c.args.new.now) c.args.out.now c.reply-write.new.out c.reply-write.result Write a.code w c.copy-proofs.new.out
-    c.in-Write.is (version-said h.size h.signature c.load-end.result c.load-end.new.room (m.slot Version h.committer) w c.version-in-leader.ensures.says c.load-end.ensures.1)
-    c.copy-proofs.ensures c.reply-write.ensures
+    let w = said c.version_in-leader.result in
+    reply_is h.size h.signature (host_state h) m a.site a.register (value_stored c.args.new.now) c.args.out.now c.reply_write.new.out c.reply_write.result Write a.code w c.copy_proofs.new.out
+    c.in-Write.is (version-said h.size h.signature c.load-end.result c.load-end.new.room (m.slot Version h.committer) w c.version_in-leader.ensures.says c.load-end.ensures.1)
+    c.copy_proofs.ensures c.reply_write.ensures

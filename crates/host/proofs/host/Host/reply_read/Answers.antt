@@ -12,20 +12,20 @@ returns-then-site-register t c =
     let h = c.args.self.now in
     let m = t.T.Store.means h.store in
     let v = value_stored c.args.new.now in
-    found_is h.size h.signature (host_state h) m c.args.site c.args.register v c.args.out.now c.reply-found.new.out c.reply-found.result
-    (said c.args.leader.now) c.args.proofs.now (said c.version-in-owner.result) v
-    (version-said h.size h.signature c.load-end.result c.load-end.new.room (m.slot Version c.args.register) (said c.version-in-owner.result) c.version-in-owner.ensures.says c.load-end.ensures.1)
-    (sym (cond-true _ v (value_of h.signature m c.args.register) (eq-eqb c.args.site c.args.register c.if-site-register.true))) c.reply-found.ensures
+    found_is h.size h.signature (host_state h) m c.args.site c.args.register v c.args.out.now c.reply_found.new.out c.reply_found.result
+    (said c.args.leader.now) c.args.proofs.now (said c.version_in-owner.result) v
+    (version-said h.size h.signature c.load-end.result c.load-end.new.room (m.slot Version c.args.register) (said c.version_in-owner.result) c.version_in-owner.ensures.says c.load-end.ensures.1)
+    (sym (cond-true _ v (value_of h.signature m c.args.register) (eq-eqb c.args.site c.args.register c.if-site-register.true))) c.reply_found.ensures
 
 pub returns : goal.returns
 returns t c =
     let h = c.args.self.now in
     let m = t.T.Store.means h.store in
     let v = value_stored c.args.new.now in
-    let u = value_stored c.value-in-value.result in
-    found_is h.size h.signature (host_state h) m c.args.site c.args.register v c.args.out.now c.reply-found-2.new.out c.reply-found-2.result
-    (said c.args.leader.now) c.args.proofs.now (said c.version-in-owner.result) u
-    (version-said h.size h.signature c.load-end.result c.load-end.new.room (m.slot Version c.args.register) (said c.version-in-owner.result) c.version-in-owner.ensures.says c.load-end.ensures.1)
-    (value-said h.signature c.load-value-end.result c.load-value-end.new.room (m.slot Value c.args.register) u c.value-in-value.ensures.says c.load-value-end.ensures.1
+    let u = value_stored c.value_in-value.result in
+    found_is h.size h.signature (host_state h) m c.args.site c.args.register v c.args.out.now c.reply_found-2.new.out c.reply_found-2.result
+    (said c.args.leader.now) c.args.proofs.now (said c.version_in-owner.result) u
+    (version-said h.size h.signature c.load-end.result c.load-end.new.room (m.slot Version c.args.register) (said c.version_in-owner.result) c.version_in-owner.ensures.says c.load-end.ensures.1)
+    (value-said h.signature c.load-value_end.result c.load-value_end.new.room (m.slot Value c.args.register) u c.value_in-value.ensures.says c.load-value_end.ensures.1
     ∙ sym (cond-false _ v (value_of h.signature m c.args.register) (ne_eqb c.args.site c.args.register c.if-site-register.false)))
-    c.reply-found-2.ensures
+    c.reply_found-2.ensures

@@ -14,8 +14,8 @@ returns-then-self t c =
     let none : h.size ≤ length (list_of h) = omega (arith, l, c.if-self.true) in
     record {
       taken = λ H.
-          full (host_setup H h) (host_state h) (t.T.Store.means h.store) c.args.bytes.now c.args.out.now (submission h.signature c.args.bytes.now c.in-ok-submit.submit)
-          c.in-ok-submit.ensures.0 (c.next-submit.ensures.0 c.if-not-next-submit.false) none;
+          full (host_setup H h) (host_state h) (t.T.Store.means h.store) c.args.bytes.now c.args.out.now (submission h.signature c.args.bytes.now c.in_ok-submit.submit)
+          c.in_ok-submit.ensures.0 (c.next_submit.ensures.0 c.if-not-next_submit.false) none;
       group = record { size = refl; signature = refl };
     }
 
@@ -30,8 +30,8 @@ returns-then-left-eq0 t c =
     let none : (t.T.Store.means h.store).left ≡ 0 = omega (arith, c.left.ensures, c.if-left-eq0.true) in
     record {
       taken = λ H.
-          worn (host_setup H h) (host_state h) (t.T.Store.means h.store) c.args.bytes.now c.args.out.now (submission h.signature c.args.bytes.now c.in-ok-submit.submit)
-          c.in-ok-submit.ensures.0 (c.next-submit.ensures.0 c.if-not-next-submit.false) free none;
+          worn (host_setup H h) (host_state h) (t.T.Store.means h.store) c.args.bytes.now c.args.out.now (submission h.signature c.args.bytes.now c.in_ok-submit.submit)
+          c.in_ok-submit.ensures.0 (c.next_submit.ensures.0 c.if-not-next_submit.false) free none;
       group = record { size = refl; signature = refl };
     }
 
@@ -39,7 +39,7 @@ pub enter-requires : goal.enter-requires
 enter-requires t c =
     let h = c.args.self.now in
     let z : c.load-end.result - 0 ≡ c.load-end.result = omega arith in
-    record { held = rw z c.load-end.ensures.1; formed = c.in-ok-submit.ensures.1; free = c.if-self.false; left = omega (arith, c.left.ensures, c.if-left-eq0.false) }
+    record { held = rw z c.load-end.ensures.1; formed = c.in_ok-submit.ensures.1; free = c.if-self.false; left = omega (arith, c.left.ensures, c.if-left-eq0.false) }
 
 pub returns : goal.returns
 returns t c =
@@ -53,8 +53,8 @@ returns t c =
     let same = c.enter.ensures.group in
     record {
       taken = λ H.
-          taken (host_setup H h) (host_state h) (t.T.Store.means h.store) c.args.bytes.now c.args.out.now (submission h.signature c.args.bytes.now c.in-ok-submit.submit)
-          c.in-ok-submit.ensures.0 (c.next-submit.ensures.0 c.if-not-next-submit.false) (host_state c.enter.new.self) (t.T.Store.means c.enter.new.self.store) c.enter.new.out c.enter.result
+          taken (host_setup H h) (host_state h) (t.T.Store.means h.store) c.args.bytes.now c.args.out.now (submission h.signature c.args.bytes.now c.in_ok-submit.submit)
+          c.in_ok-submit.ensures.0 (c.next_submit.ensures.0 c.if-not-next_submit.false) (host_state c.enter.new.self) (t.T.Store.means c.enter.new.self.store) c.enter.new.out c.enter.result
           free some c.enter.ensures.enters;
       group = record { size = same.size; signature = same.signature };
     }

@@ -9,15 +9,15 @@ use Rattle.ledger.proofs.ledger.Ledger.count.Goals.{then-entry-site, else-entry-
 pub loop-entry-init : goal.loop-entry-init
 loop-entry-init c = refl
 
-pub overflow-add-n : goal.overflow-add-n
-overflow-add-n c = omega (arith, c.loop-entry.invariant, c.args.self.now.few c.args.site, count_take_le c.args.site (map held (vec_items c.args.self.now.entries)) c.loop-entry.entry-index)
+pub overflow_add-n : goal.overflow_add-n
+overflow_add-n c = omega (arith, c.loop-entry.invariant, c.args.self.now.few c.args.site, count_take_le c.args.site (map held (vec_items c.args.self.now.entries)) c.loop-entry.entry-index)
 
 pub loop-entry-preserved : goal.loop-entry-preserved
 loop-entry-preserved c =
     let xs = vec_items c.args.self.now.entries in
     let i = c.loop-entry.entry-index in
     let e = c.entry-item.result in
-    let v = c.as-slice-entry-items.ensures.value in
+    let v = c.as_slice-entry-items.ensures.value in
     let below : i < length xs = rw (← v) c.loop-entry-test.true in
     let is : e ≡ get_or xs i e = rw (← v) c.entry-item.is in
     elim c.if-entry-site.branch [
@@ -28,6 +28,6 @@ loop-entry-preserved c =
 pub returns : goal.returns
 returns c =
     let xs = vec_items c.args.self.now.entries in
-    let v = c.as-slice-entry-items.ensures.value in
+    let v = c.as_slice-entry-items.ensures.value in
     let all = c.loop-entry.invariant ∙ ap (count c.args.site) (take_all c.loop-entry.entry-index (map held xs) (rw (length-map, ← v) (omega arith))) in
     record { value = all; bound = omega (arith, all, c.args.self.now.few c.args.site) }

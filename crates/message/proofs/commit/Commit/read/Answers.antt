@@ -5,10 +5,10 @@ use Rattle.message.proofs.Laws.{commit_law}
 use Rattle.message.proofs.Ending.{reads_whole}
 use Rattle.message.proofs.commit.Commit.read.Goals as goal
 
-pub returns-in-err-zero : goal.returns-in-err-zero
-returns-in-err-zero c =
-    let p = err_from_is_err_and c.from-residual.result c.from-residual.ensures.1 in
-    let z = c.in-err-zero.ensures in
+pub returns-in_err-zero : goal.returns-in_err-zero
+returns-in_err-zero c =
+    let p = err_from_is_err_and c.from_residual.result c.from_residual.ensures.1 in
+    let z = c.in_err-zero.ensures in
     record { reads = rw (p.1, p.2, z.1) z.0; undoes = undoes (commit_law c.args.n c.args.g) }
 
 pub returns : goal.returns
@@ -17,5 +17,5 @@ returns c =
     let g = c.args.g in
     let bs = c.args.bytes.now in
     let u = undoes (commit_law n g) in
-    let z = c.in-ok-zero.ensures in
-    record { reads = reads_whole n (commit n g) (commitment g bs) bs _ _ u (λ k. (c.type-inv.bytes k).fits) z.0 (rw z.1 at c.commit-fields.ensures) c.whole.ensures; undoes = u }
+    let z = c.in_ok-zero.ensures in
+    record { reads = reads_whole n (commit n g) (commitment g bs) bs _ _ u (λ k. (c.type_inv.bytes k).fits) z.0 (rw z.1 at c.commit_fields.ensures) c.whole.ensures; undoes = u }

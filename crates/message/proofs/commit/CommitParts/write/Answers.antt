@@ -6,4 +6,4 @@ use Rattle.message.proofs.commit.CommitParts.write.Goals as goal
 pub returns : goal.returns
 returns c n g =
     let m = committed c.args.self.now in
-    writes m _ _ c.args.out.now _ _ (commit_law n g) (λ z. z) (commit_put n g m _ c.version-part-end.result c.version-part-end.new.room c.commit-start-head.ensures c.version-part-end.ensures.1) c.fill.ensures
+    writes m _ _ c.args.out.now _ _ (commit_law n g) (λ z. z) (commit_put n g m _ c.version_part-end.result c.version_part-end.new.room c.commit_start-head.ensures c.version_part-end.ensures.1) c.fill.ensures

@@ -12,31 +12,31 @@ returns-in-None c =
     let m = c.args.self.now in
     let g = c.args.g in
     let n = length (slots m.version.now) in
-    let proofs = c.proofs-part-proofs.result.now in
+    let proofs = c.proofs_part-proofs.result.now in
     let e =
-    reply_put g m None c.in-None.is c.reply-start-head.result (take (c.version-part-end.result - 0) c.version-part-end.new.room)
-    (take (c.entries-part-list-end.result - 0) c.entries-part-list-end.new.room) proofs [] c.reply-start-head.ensures
-    (cut-part c.version-part-end.result c.version-part-end.new.room _ c.version-part-end.ensures.1)
-    (cut-part c.entries-part-list-end.result c.entries-part-list-end.new.room _ c.entries-part-list-end.ensures.1)
-    (c.proofs-part-proofs.ensures ∙ ap (proofs_put g m.proofs.now) c.size.ensures.value) refl in
+    reply_put g m None c.in-None.is c.reply_start-head.result (take (c.version_part-end.result - 0) c.version_part-end.new.room)
+    (take (c.entries_part-list_end.result - 0) c.entries_part-list_end.new.room) proofs [] c.reply_start-head.ensures
+    (cut-part c.version_part-end.result c.version_part-end.new.room _ c.version_part-end.ensures.1)
+    (cut-part c.entries_part-list_end.result c.entries_part-list_end.new.room _ c.entries_part-list_end.ensures.1)
+    (c.proofs_part-proofs.ensures ∙ ap (proofs_put g m.proofs.now) c.size.ensures.value) refl in
     let long : FoundTooLong m.found → ⊥ = rw c.in-None.is (λ z. z) in
     writes (responded g m) _ _ c.args.out.now _ _ (reply_law n g) long (rw (append-nil proofs) at e) c.fill.ensures
 
-pub returns-in-ok-size : goal.returns-in-ok-size
-returns-in-ok-size c =
+pub returns-in_ok-size : goal.returns-in_ok-size
+returns-in_ok-size c =
     let m = c.args.self.now in
     let g = c.args.g in
     let n = length (slots m.version.now) in
     let f = c.in-Some.found in
-    let v = c.in-ok-size.ensures in
+    let v = c.in_ok-size.ensures in
     let back =
-    found_put n g f (take (c.version-part-owner-end.result - 0) c.version-part-owner-end.new.room) c.stamp-part-stamp.result c.in-ok-size.size c.in-ok-size.value.now
-    (cut-part c.version-part-owner-end.result c.version-part-owner-end.new.room _ c.version-part-owner-end.ensures.1) c.stamp-part-stamp.ensures v.1 in
+    found_put n g f (take (c.version_part-owner_end.result - 0) c.version_part-owner_end.new.room) c.stamp_part-stamp.result c.in_ok-size.size c.in_ok-size.value.now
+    (cut-part c.version_part-owner_end.result c.version_part-owner_end.new.room _ c.version_part-owner_end.ensures.1) c.stamp_part-stamp.ensures v.1 in
     let e =
-    reply_put g m (Some f) c.in-Some.is c.reply-start-head-in-Some.result (take (c.version-part-end.result - 0) c.version-part-end.new.room)
-    (take (c.entries-part-list-end.result - 0) c.entries-part-list-end.new.room) c.proofs-part-proofs.result.now _ c.reply-start-head-in-Some.ensures
-    (cut-part c.version-part-end.result c.version-part-end.new.room _ c.version-part-end.ensures.1)
-    (cut-part c.entries-part-list-end.result c.entries-part-list-end.new.room _ c.entries-part-list-end.ensures.1)
-    (c.proofs-part-proofs.ensures ∙ ap (proofs_put g m.proofs.now) c.size.ensures.value) back in
+    reply_put g m (Some f) c.in-Some.is c.reply_start-head-in-Some.result (take (c.version_part-end.result - 0) c.version_part-end.new.room)
+    (take (c.entries_part-list_end.result - 0) c.entries_part-list_end.new.room) c.proofs_part-proofs.result.now _ c.reply_start-head-in-Some.ensures
+    (cut-part c.version_part-end.result c.version_part-end.new.room _ c.version_part-end.ensures.1)
+    (cut-part c.entries_part-list_end.result c.entries_part-list_end.new.room _ c.entries_part-list_end.ensures.1)
+    (c.proofs_part-proofs.ensures ∙ ap (proofs_put g m.proofs.now) c.size.ensures.value) back in
     let long : FoundTooLong m.found → ⊥ = rw c.in-Some.is v.0 in
-    writes (responded g m) _ _ c.args.out.now _ _ (reply_law n g) long e c.fill-eleven.ensures
+    writes (responded g m) _ _ c.args.out.now _ _ (reply_law n g) long e c.fill_eleven.ensures

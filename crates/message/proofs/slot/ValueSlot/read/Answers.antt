@@ -9,4 +9,4 @@ returns c =
     let g = c.args.g in
     let bs = c.args.bytes.now in
     let u = undoes (value_slot_law g) in
-    record { reads = reads_any (value_slot g) (stored_value g bs) bs _ _ u (λ k. (c.type-inv.bytes k).fits) c.value-slot-fields.ensures c.whole.ensures; undoes = u }
+    record { reads = reads_any (value_slot g) (stored_value g bs) bs _ _ u (λ k. (c.type_inv.bytes k).fits) c.value_slot_fields.ensures c.whole.ensures; undoes = u }

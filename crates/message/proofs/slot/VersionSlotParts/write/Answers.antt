@@ -6,4 +6,4 @@ use Rattle.message.proofs.slot.VersionSlotParts.write.Goals as goal
 pub returns : goal.returns
 returns c n g =
     let m = version_stored c.args.self.now in
-    writes m _ _ c.args.out.now _ _ (version_slot_law n g) (λ z. z) (version_slot_put n g m c.version-part-end.result c.version-part-end.new.room c.version-part-end.ensures.1) c.fill.ensures
+    writes m _ _ c.args.out.now _ _ (version_slot_law n g) (λ z. z) (version_slot_put n g m c.version_part-end.result c.version_part-end.new.room c.version_part-end.ensures.1) c.fill.ensures

@@ -5,10 +5,10 @@ use Rattle.message.proofs.Laws.{submit_law}
 use Rattle.message.proofs.Ending.{reads_whole}
 use Rattle.message.proofs.submit.Submit.read.Goals as goal
 
-pub returns-in-err-zero : goal.returns-in-err-zero
-returns-in-err-zero c =
-    let p = err_from_is_err_and c.from-residual.result c.from-residual.ensures.1 in
-    let z = c.in-err-zero.ensures in
+pub returns-in_err-zero : goal.returns-in_err-zero
+returns-in_err-zero c =
+    let p = err_from_is_err_and c.from_residual.result c.from_residual.ensures.1 in
+    let z = c.in_err-zero.ensures in
     record { reads = rw (p.1, p.2, z.1) z.0; undoes = undoes (submit_law c.args.n c.args.g) }
 
 pub returns : goal.returns
@@ -17,4 +17,4 @@ returns c =
     let g = c.args.g in
     let bs = c.args.bytes.now in
     let u = undoes (submit_law n g) in
-    record { reads = reads_whole n (submit n g) (submission g bs) bs _ _ u (λ k. (c.type-inv.bytes k).fits) c.in-ok-zero.ensures.0 c.submit-fields.ensures c.whole.ensures; undoes = u }
+    record { reads = reads_whole n (submit n g) (submission g bs) bs _ _ u (λ k. (c.type_inv.bytes k).fits) c.in_ok-zero.ensures.0 c.submit_fields.ensures c.whole.ensures; undoes = u }

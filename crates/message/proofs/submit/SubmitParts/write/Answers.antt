@@ -6,5 +6,5 @@ use Rattle.message.proofs.submit.SubmitParts.write.Goals as goal
 pub returns : goal.returns
 returns c n g =
     let m = submitted c.args.self.now in
-    let v = c.in-ok-size.ensures in
-    writes m _ _ c.args.out.now _ _ (submit_law n g) v.0 (submit_put n g m _ c.in-ok-size.size c.in-ok-size.value.now c.submit-start-head.ensures v.1) c.fill.ensures
+    let v = c.in_ok-size.ensures in
+    writes m _ _ c.args.out.now _ _ (submit_law n g) v.0 (submit_put n g m _ c.in_ok-size.size c.in_ok-size.value.now c.submit_start-head.ensures v.1) c.fill.ensures

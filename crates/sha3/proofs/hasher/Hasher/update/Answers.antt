@@ -19,8 +19,8 @@ returns-else-piece-used c bs h =
     let rest : List ℕ = c.absorb-rest.result.now in
     let filled : List ℕ = c.put-else-piece-used.new.buffer in
     holds_more step 136 (lit< tt) zeros s.state s.buffer s.used bs h
-    c.args.piece.now c.split-at.result.0.now c.split-at.result.1.now rest filled c.put-else-piece-used-2.new.buffer
-    c.absorb-block.new.a c.absorb-rest.new.a (length rest)
-    c.if-piece-used.false c.split-at.ensures.front c.split-at.ensures.back c.absorb-rest.ensures.rest
-    c.put-else-piece-used.ensures c.absorb-block.ensures c.absorb-rest.ensures.state
+    c.args.piece.now c.split_at.result.0.now c.split_at.result.1.now rest filled c.put-else-piece-used-2.new.buffer
+    c.absorb_block.new.a c.absorb-rest.new.a (length rest)
+    c.if-piece-used.false c.split_at.ensures.front c.split_at.ensures.back c.absorb-rest.ensures.rest
+    c.put-else-piece-used.ensures c.absorb_block.ensures c.absorb-rest.ensures.state
     (at_front rest filled _ c.put-else-piece-used-2.ensures) c.absorb-rest.ensures.len

@@ -9,7 +9,7 @@ pub returns : goal.returns
 returns g c q digest k =
     let s = c.args.self.now in
     let v = option_map (λ x. x.now) c.args.value in
-    let x = c.in-ok-timestamp.ensures in
-    begun (length (slots s.version)) g.S.Scheme.len digest (g.S.Scheme.means c.args.scheme.now) (g.S.Scheme.means c.write-submit-length.new.scheme) (state s) q c.args.code c.args.register
-    c.in-ok-timestamp.timestamp v c.args.last c.args.out.now c.write-submit-length.new.out c.write-submit-length.result (operation_named c.of-ticket.result) c.of-ticket.ensures k
-    (x.0, x.1, x.2, omega (arith, x.3, c.size.ensures, c.value-size.ensures)) c.write-submit-length.ensures
+    let x = c.in_ok-timestamp.ensures in
+    begun (length (slots s.version)) g.S.Scheme.len digest (g.S.Scheme.means c.args.scheme.now) (g.S.Scheme.means c.write_submit-length.new.scheme) (state s) q c.args.code c.args.register
+    c.in_ok-timestamp.timestamp v c.args.last c.args.out.now c.write_submit-length.new.out c.write_submit-length.result (operation_named c.of-ticket.result) c.of-ticket.ensures k
+    (x.0, x.1, x.2, omega (arith, x.3, c.size.ensures, c.value_size.ensures)) c.write_submit-length.ensures

@@ -4,16 +4,16 @@ use Rattle.site.specs.State.{state, operation_named}
 use Rattle.site.proofs.Completing.{stopped_by, version_length_is, told, completed_by}
 use Rattle.site.proofs.state.Site.finish.Goals as goal
 
-pub invariant-of-self : goal.invariant-of-self
-invariant-of-self g c =
+pub invariant_of-self : goal.invariant_of-self
+invariant_of-self g c =
     let s = c.args.self.now in
     let l : length (slots c.in-Ok-verify.running.version) ≡ length (slots s.version) =
     version_length_is g.S.Scheme.len g.D.Digest.means (g.S.Scheme.means c.args.scheme.now) (state s) (operation_named c.args.ticket) c.args.bytes.now (length c.args.out.now) c.in-Ok.admitted.0 c.in-Ok.admitted.1
     c.in-Ok.ensures c.in-Ok-verify.running c.in-Ok-verify.ensures (s.low, s.high) in
     (s.low, (omega (arith, s.high, l), (s.wide, tt)))
 
-pub write-commit-length-requires : goal.write-commit-length-requires
-write-commit-length-requires g c =
+pub write_commit-length-requires : goal.write_commit-length-requires
+write_commit-length-requires g c =
     let s = c.args.self.now in
     let ad = c.in-Ok.ensures in
     let l : length (slots c.in-Ok-verify.running.version) ≡ length (slots s.version) =
@@ -32,9 +32,9 @@ returns-in-Ok-verify g c =
     let s = c.args.self.now in
     let done =
     completed_by g.S.Scheme.len g.D.Digest.means (g.S.Scheme.means c.args.scheme.now) (state s) (operation_named c.args.ticket) c.args.bytes.now (length c.args.out.now) c.in-Ok.admitted.0 c.in-Ok.admitted.1
-    c.in-Ok.ensures c.in-Ok-verify.running c.in-Ok-verify.ensures (s.low, s.high) (g.S.Scheme.means c.write-commit-length.new.scheme) c.args.out.now c.write-commit-length.new.out
-    c.write-commit-length.result refl c.write-commit-length.ensures in
-    (done.0, done.1, c.found-place-value.ensures ∙ done.2, done.3)
+    c.in-Ok.ensures c.in-Ok-verify.running c.in-Ok-verify.ensures (s.low, s.high) (g.S.Scheme.means c.write_commit-length.new.scheme) c.args.out.now c.write_commit-length.new.out
+    c.write_commit-length.result refl c.write_commit-length.ensures in
+    (done.0, done.1, c.found_place-value.ensures ∙ done.2, done.3)
 
 pub returns-in-Err-verify : goal.returns-in-Err-verify
 returns-in-Err-verify g c =

@@ -16,7 +16,7 @@ invariant_of-self c =
     let told = told_set v.timestamps v.digests k t d lt ld c.requires.told v.told in
     let past = bounded_set v.timestamps v.digests k t d lt ld v.size c.requires.within v.bounded in
     let wide = wide_set v.timestamps v.digests k t d lt ld c.requires.wide v.wide in
-    (v.sized, (small, (told, (past, (wide, tt)))))
+    record { sized = v.sized; small = small; told = told; bounded = past; wide = wide }
 
 pub returns : goal.returns
 returns c =

@@ -49,4 +49,4 @@ returns c =
     let n = c.loop-place.invariant.0 in
     let m = slots_length v in
     let l = left_all slot_field c.args.self.size c.args.bytes.now c.loop-place.place (take c.loop-place.place (slots v)) c.loop-place.rest.now (omega arith) c.loop-place.invariant.1 in
-    taken c.args.self v c.args.bytes.now c.loop-place.rest.now n (λ k. (c.ok.bytes k).fits) (rw (take_all c.loop-place.place (slots v) (omega arith)) at l)
+    taken c.args.self v c.args.bytes.now c.loop-place.rest.now n (λ k. (c.type_inv.bytes k).fits) (rw (take_all c.loop-place.place (slots v) (omega arith)) at l)
