@@ -11,8 +11,8 @@ returns-in-97-to-102 c = (omega arith, digit_high (c.args.c - 97 + 10) (omega ar
 pub returns-in_default : goal.returns-in_default
 returns-in_default c = no_value c.args.c (λ h. omega arith) (λ h. omega arith)
 
-pub returns-in-default·2 : goal.returns-in-default·2
-returns-in-default·2 c = no_value c.args.c (λ h. omega arith) (λ h. omega arith)
+pub returns-in_default-2 : goal.returns-in_default-2
+returns-in_default-2 c = no_value c.args.c (λ h. omega arith) (λ h. omega arith)
 
-pub returns-in-default·3 : goal.returns-in-default·3
-returns-in-default·3 c = no_value c.args.c (λ h. omega arith) (λ h. omega arith)
+pub returns-in_default-3 : goal.returns-in_default-3
+returns-in_default-3 c = no_value c.args.c (λ h. omega arith) (λ h. omega arith)
