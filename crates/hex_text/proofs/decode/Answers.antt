@@ -3,7 +3,7 @@ use Rattle.std.proofs.lemmas.Bool.Decides.{not_from_Decides}
 use Rattle.hex_text.specs.Hex.{text_of, digits}
 use Rattle.hex_text.proofs.Digits.{digits_more, digits_all, no_high, no_low, no_odd}
 use Rattle.hex_text.proofs.decode.Goals as goal
-use Rattle.hex_text.proofs.decode.Goals.{then-is_empty-via-then-is_empty, then-is_empty-via-else-is-empty+then-text-ne0}
+use Rattle.hex_text.proofs.decode.Goals.{then-is_empty-via-then-is_empty, then-is_empty-via-else-is_empty+then-text-ne0}
 
 pub returns-then-same : goal.returns-then-same
 returns-then-same c = ap text_of c.new-bytes.ensures.items ∙ sym (c.same.ensures.0 c.if-same.true)
@@ -13,7 +13,7 @@ returns-then-is_empty c = λ bs h e.
     no_odd c.args.text.now (not_from_Decides c.same.result c.same.ensures c.if-same.false)
     (elim c.then-is_empty.branch [
       | then-is_empty-via-then-is_empty w ↦ let t = w.if-is_empty.true in let y = c.is_empty.ensures in inl (grind arith)
-      | then-is_empty-via-else-is-empty+then-text-ne0 w ↦ inr w.if-text-ne0.true
+      | then-is_empty-via-else-is_empty+then-text-ne0 w ↦ inr w.if-text-ne0.true
     ])
     bs e
 
