@@ -73,8 +73,8 @@ fn put_entry(out: &mut [u8], start: usize, entry: &ListEntry, g: usize) -> Optio
 }
 
 fn put_entries(out: &mut [u8], entries: &[ListEntry], g: usize) -> Option<usize>
-    requires g_bound { g ≤ 64 }
-    requires entries_len_bound { length entries.now ≤ 8 }
+    requires signature_fits { g ≤ 64 }
+    requires few_entries { length entries.now ≤ 8 }
     ensures { PutsEntries g entries.now out.old out.new result }
 {
     let mut at = put_u8(out, 0, entries.len() as u8)?;

@@ -5,8 +5,8 @@ use Rattle.version.specs.Version.{slots}
 use Rattle.message.proofs.Placing.{left_placed}
 use Rattle.message.proofs.fields.version_at.Goals as goal
 
-pub overflow-sub-result : goal.overflow-sub-result
-overflow-sub-result c = (left_placed c.args.bytes.now _ c.args.at _ c.rest-field.ensures c.in_ok-found.ensures.1).0
+pub overflow_sub-result : goal.overflow_sub-result
+overflow_sub-result c = (left_placed c.args.bytes.now _ c.args.at _ c.rest-field.ensures c.in_ok-found.ensures.1).0
 
 pub returns : goal.returns
 returns c =

@@ -2,8 +2,8 @@ use Rattle.std.proofs.Common.{rules}
 use Rattle.message.proofs.Placing.{value-signed}
 use Rattle.message.proofs.reply.found_at.Goals as goal
 
-pub returns-in_ok-data_signature : goal.returns-in_ok-data_signature
-returns-in_ok-data_signature c =
+pub returns-in_ok-data_signature-in-Read : goal.returns-in_ok-data_signature
+returns-in_ok-data_signature-in-Read c =
     let s = c.in_ok-data_signature.ensures in
     record {
       got = search rules;

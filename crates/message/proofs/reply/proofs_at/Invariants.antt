@@ -6,5 +6,5 @@ use Rattle.message.proofs.reply.proofs_at.Given as goal
 
 abbrev pub invariant-loop-k : goal.invariant-loop-k
 invariant-loop-k l =
-    (l.at ≡ l.start + l.g * l.-k)
-    × Left (span l.g) l.n (drop l.start l.bytes) l.-k (signatures l.g l.bytes l.-k l.start) (drop l.at l.bytes)
+    (l.at ≡ l.start + l.g * l._k)
+    × Left (span l.g) l.n (drop l.start l.bytes) l._k (signatures l.g l.bytes l._k l.start) (drop l.at l.bytes)

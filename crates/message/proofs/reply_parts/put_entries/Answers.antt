@@ -23,7 +23,7 @@ returns-in_err-at-2 c =
 pub loop-entry-preserved : goal.loop-entry-preserved
 loop-entry-preserved c =
     let q = c.in_ok-at-2.ensures in
-    list_more c.args.g c.args.entries.now c.loop-entry.entry-index _ (omega arith) c.requires.0 c.loop-entry.invariant.0 c.loop-entry.invariant.1 q
+    list_more c.args.g c.args.entries.now c.loop-entry.entry-index _ (omega arith) c.requires.signature_fits c.loop-entry.invariant.0 c.loop-entry.invariant.1 q
 
 pub returns : goal.returns
 returns c = rw (list_all c.args.g c.args.entries.now c.loop-entry.entry-index (omega arith)) at (c.in_ok-at.ensures ⨾ c.loop-entry.invariant.1)

@@ -20,7 +20,10 @@ invariant_of-self c =
     let k = c.in_ok-left.ensures.lefts in
     let e = pushed (vec_items l.entries) (vec_items c.push_reserved.new.self) c.of.result c.args.site c.args.text.now c.push_reserved.ensures.items c.of.ensures in
     let less : count c.args.site (map held (vec_items l.entries)) < most = omega (arith, k.1) in
-    (λ s. rw e (few_more (map held (vec_items l.entries)) c.args.site c.args.text.now l.few less s), (omega (arith, l.room), tt))
+    record {
+      few = λ s. rw e (few_more (map held (vec_items l.entries)) c.args.site c.args.text.now l.few less s);
+      room = omega (arith, l.room);
+    }
 
 pub returns : goal.returns
 returns c =
