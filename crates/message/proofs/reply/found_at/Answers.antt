@@ -2,7 +2,7 @@ use Rattle.std.proofs.Common.{rules}
 use Rattle.message.proofs.Placing.{value-signed}
 use Rattle.message.proofs.reply.found_at.Goals as goal
 
-pub returns-in_ok-data_signature-in-Read : goal.returns-in_ok-data_signature
+pub returns-in_ok-data_signature-in-Read : goal.returns-in_ok-data_signature-in-Read
 returns-in_ok-data_signature-in-Read c =
     let s = c.in_ok-data_signature.ensures in
     record {

@@ -15,7 +15,7 @@ loop-j-preserved c =
     let W : List ℕ = schedule (words c.args.block.now 16) 48 in
     let n : 16 * j + 16 ≡ 16 * (j + 1) = omega arith in
     let w = c.loop-j.invariant.0 (omega arith) in
-    let r = c.sixteen-rounds-r.ensures W c.args.s w c.loop-j.invariant.1 in
+    let r = c.sixteen_rounds-r.ensures W c.args.s w c.loop-j.invariant.1 in
     let more : j + 1 < 4 → Shows W (16 * (j + 1)) c.if-j-lt3.w =
     λ h. elim c.if-j-lt3.branch [
       | then-j-lt3 v ↦

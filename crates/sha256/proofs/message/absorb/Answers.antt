@@ -11,13 +11,13 @@ loop-block-init c = refl
 pub loop-block-preserved : goal.loop-block-preserved
 loop-block-preserved c =
     absorbed_chunk compressed 64 c.args.s _ _ c.args.bytes.now _ _ (length c.args.bytes.now / 64) c.loop-block.block-index
-    c.as-chunks.ensures.front (omega arith) c.loop-block.invariant c.compress-r.ensures
+    c.as_chunks.ensures.front (omega arith) c.loop-block.invariant c.compress-r.ensures
 
 pub returns : goal.returns
 returns c =
     let n : c.loop-block.block-index ≡ length c.args.bytes.now / 64 = omega arith in
     record {
       state = c.loop-block.invariant ∙ ap (absorbed compressed 64 c.args.s c.args.bytes.now) n;
-      rest = c.as-chunks.ensures.back;
-      len = c.as-chunks.ensures.back_len;
+      rest = c.as_chunks.ensures.back;
+      len = c.as_chunks.ensures.back_len;
     }

@@ -8,7 +8,7 @@ use Rattle.sha256.proofs.message.conclude.Goals as goal
 pub returns : goal.returns
 returns c =
     let pad : List ℕ = padding c.args.n in
-    c.output-bytes.ensures
+    c.output_bytes.ensures
     ∙ ap output
     (c.finish.ensures
     ∙ ap (λ z. whole compressed 64 c.absorb.result.0 (z ++ pad)) c.absorb.ensures.rest

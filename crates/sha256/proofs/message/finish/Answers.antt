@@ -8,5 +8,5 @@ pub returns : goal.returns
 returns c =
     c.absorb.ensures.state
     ∙ ap (whole compressed 64 c.args.s)
-    (padded c.args.rest.now c.put.new.block c.put-2.new.block c.to-be-bytes.result c.args.n _
-    c.put.ensures c.put-2.ensures c.to-be-bytes.ensures c.requires.short c.requires.last (omega arith))
+    (padded c.args.rest.now c.put.new.block c.put-2.new.block c.to_be_bytes.result c.args.n _
+    c.put.ensures c.put-2.ensures c.to_be_bytes.ensures c.requires.short c.requires.last (omega arith))

@@ -10,7 +10,7 @@ loop-i-init c = (refl, refl)
 pub loop-i-preserved : goal.loop-i-preserved
 loop-i-preserved c = (
   c.put.auto.block ∙ c.loop-i.invariant.0,
-  joined_word _ c.loop-i.bytes c.put.new.block c.to-be-bytes.result c.loop-i.i (omega arith) (omega arith) c.loop-i.invariant.1 c.to-be-bytes.ensures c.put.ensures,
+  joined_word _ c.loop-i.bytes c.put.new.block c.to_be_bytes.result c.loop-i.i (omega arith) (omega arith) c.loop-i.invariant.1 c.to_be_bytes.ensures c.put.ensures,
 )
 
 pub returns : goal.returns

@@ -5,5 +5,5 @@ use Rattle.sha256.proofs.message.put.Goals as goal
 pub returns : goal.returns
 returns c =
     let p = Post-is c.args.at (c.args.at + length c.args.part.now) c.args.block.now (omega arith) in
-    let e = c.copy-from-slice.ensures.after in
+    let e = c.copy_from_slice.ensures.after in
     cc

@@ -4,4 +4,4 @@ use Rattle.sha256.proofs.schedule.small_sigma1.Goals as goal
 
 pub returns : goal.returns
 unfolding σ1
-returns c = let x = lanes c.args.x c.fits-x.0 in simp (c.rotate-right.ensures, c.rotate-right-2.ensures, x.4)
+returns c = let x = lanes c.args.x c.fits-x.0 in simp (c.rotate_right.ensures, c.rotate_right-2.ensures, x.4)

@@ -22,7 +22,7 @@ returns-in-None c =
     let long : FoundTooLong m.found → ⊥ = rw c.in-None.is (λ z. z) in
     writes (responded g m) _ _ c.args.out.now _ _ (reply_law n g) long (rw (append-nil proofs) at e) c.fill.ensures
 
-pub returns-in_ok-size-in-Some : goal.returns-in_ok-size
+pub returns-in_ok-size-in-Some : goal.returns-in_ok-size-in-Some
 returns-in_ok-size-in-Some c =
     let m = c.args.self.now in
     let g = c.args.g in

@@ -21,8 +21,8 @@ returns-else-piece-used c bs h =
     let z = zero-add (length c.absorb.result.1.now) in
     record {
       holds = holds_more compressed 64 (lit< tt) Initial self.state self.block (self.len % 64) bs h.holds
-          x c.split-at.result.0.now c.split-at.result.1.now c.absorb.result.1.now c.put-else-piece-used.new.block c.put-else-piece-used-2.new.block
-          c.compress.result c.absorb.result.0 _ c.if-piece-used.false c.split-at.ensures.front c.split-at.ensures.back
+          x c.split_at.result.0.now c.split_at.result.1.now c.absorb.result.1.now c.put-else-piece-used.new.block c.put-else-piece-used-2.new.block
+          c.compress.result c.absorb.result.0 _ c.if-piece-used.false c.split_at.ensures.front c.split_at.ensures.back
           c.absorb.ensures.rest c.put-else-piece-used.ensures c.compress.ensures c.absorb.ensures.state
           (c.put-else-piece-used-2.ensures ∙ ap (λ n. c.absorb.result.1.now ++ drop n c.put-else-piece-used.new.block) z) (omega arith);
       count = omega (arith, h.count, length-append bs x);

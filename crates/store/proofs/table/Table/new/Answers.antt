@@ -4,12 +4,12 @@ use Rattle.store.specs.Places.{zeros-bytes, same_short}
 use Rattle.store.specs.Slots.{slots_empty}
 use Rattle.store.proofs.table.Table.new.Goals as goal
 
-pub invariant-of-result : goal.invariant-of-result
-invariant-of-result c =
-    let filled = c.in-ok-vec.ensures in
+pub invariant_of-result : goal.invariant_of-result
+invariant_of-result c =
+    let filled = c.in_ok-vec.ensures in
     (filled.len, (zeros-bytes (places * max_slot) _ (filled.items-if-clones-equal (λ y h. h)), (same_short places _ (omega arith), tt)))
 
 pub returns : goal.returns
 returns c s i =
-    let e = slots_empty places (vec_items c.in-ok-vec.field-0) s i in
+    let e = slots_empty places (vec_items c.in_ok-vec.field-0) s i in
     search rules

@@ -5,5 +5,5 @@ use Rattle.store.proofs.table.calls.TableStore.write.Goals as goal
 pub returns : goal.returns
 unfolding slot_in
 returns c =
-    let k = c.in-ok-check-write.ensures in
+    let k = c.in_ok-check_write.ensures in
     (k.0, k.1, omega arith, search rules)
