@@ -4,8 +4,8 @@ use Rattle.message.proofs.reply.found_at.Goals as goal
 
 pub returns-in_ok-data_signature-in-Read : goal.returns-in_ok-data_signature-in-Read
 returns-in_ok-data_signature-in-Read c =
-    let s = c.in_ok-data_signature.ensures in
+    let s = c.in_ok-data_signature-in-Read.ensures in
     record {
       got = search rules;
-      placed = value-signed c.args.g c.args.bytes.now _ _ c.in_ok-value.value _ _ c.in_ok-value.ensures.placed s.placed.1 s.got;
+      placed = value-signed c.args.g c.args.bytes.now _ _ c.in_ok-value-in-Read.value _ _ c.in_ok-value-in-Read.ensures.placed s.placed.1 s.got;
     }

@@ -28,9 +28,9 @@ returns-in_ok-size-in-Some c =
     let g = c.args.g in
     let n = length (slots m.version.now) in
     let f = c.in-Some.found in
-    let v = c.in_ok-size.ensures in
+    let v = c.in_ok-size-in-Some.ensures in
     let back =
-    found_put n g f (take (c.version_part-owner_end.result - 0) c.version_part-owner_end.new.room) c.stamp_part-stamp.result c.in_ok-size.size c.in_ok-size.value.now
+    found_put n g f (take (c.version_part-owner_end.result - 0) c.version_part-owner_end.new.room) c.stamp_part-stamp.result c.in_ok-size-in-Some.size c.in_ok-size-in-Some.value.now
     (cut-part c.version_part-owner_end.result c.version_part-owner_end.new.room _ c.version_part-owner_end.ensures.1) c.stamp_part-stamp.ensures v.1 in
     let e =
     reply_put g m (Some f) c.in-Some.is c.reply_start-head-in-Some.result (take (c.version_part-end.result - 0) c.version_part-end.new.room)

@@ -7,7 +7,11 @@ use Rattle.store.proofs.table.Table.new.Goals as goal
 pub invariant_of-result : goal.invariant_of-result
 invariant_of-result c =
     let filled = c.in_ok-vec.ensures in
-    (filled.len, (zeros-bytes (places * max_slot) _ (filled.items-if-clones-equal (λ y h. h)), (same_short places _ (omega arith), tt)))
+    record {
+      whole = filled.len;
+      bytes = zeros-bytes (places * max_slot) _ (filled.items_if_clones_equal (λ y h. h));
+      short = same_short places _ (omega arith);
+    }
 
 pub returns : goal.returns
 returns c s i =

@@ -11,8 +11,12 @@ invariant_of-self c =
     let w = t.whole in
     let few = c.requires.short in
     let lt : p < length t.lengths = search rules in
-    let put = copied_over t.space _ _ bs (max_slot * p) (max_slot * p + length bs - max_slot * p) c.deref-mut.ensures.value c.copy_from_slice.ensures.after (omega arith) (omega arith) in
-    (w, (bytes_put (vec_items t.space) _ bs p put t.bytes (λ k. (c.type_inv.bytes k).fits), (short_set t.lengths p (length bs) lt few t.short, tt)))
+    let put = copied_over t.space _ _ bs (max_slot * p) (max_slot * p + length bs - max_slot * p) c.deref_mut.ensures.value c.copy_from_slice.ensures.after (omega arith) (omega arith) in
+    record {
+      whole = w;
+      bytes = bytes_put (vec_items t.space) _ bs p put t.bytes (λ k. (c.type_inv.bytes k).fits);
+      short = short_set t.lengths p (length bs) lt few t.short;
+    }
 
 pub returns : goal.returns
 returns c =
@@ -23,7 +27,7 @@ returns c =
     let l = t.space.ok.0 in
     let few = c.requires.short in
     let lt : p < length t.lengths = search rules in
-    let put = copied_over t.space _ _ bs (max_slot * p) (max_slot * p + length bs - max_slot * p) c.deref-mut.ensures.value c.copy_from_slice.ensures.after (omega arith) (omega arith) in
+    let put = copied_over t.space _ _ bs (max_slot * p) (max_slot * p + length bs - max_slot * p) c.deref_mut.ensures.value c.copy_from_slice.ensures.after (omega arith) (omega arith) in
     record {
       here = held_here (vec_items t.space) _ bs p put t.lengths lt few (omega arith);
       others = held_other (vec_items t.space) _ bs p put t.lengths lt few (omega arith) t.short;
