@@ -1,6 +1,6 @@
 use Rattle.std.proofs.Common.{◌≡◌, ℕ, List, [], ◌∷◌}
-use Rattle.std.specs.Prelude.{bit_xor, slice_index, w64}
-use Rattle.std.specs.Int.{rotate_left}
+use Rattle.std.specs.Prelude.{bit_xor, slice_index}
+use Rattle.std.specs.Int.{rotate_left, w64}
 use Rattle.sha3.specs.Keccak.{D, θ, ρ, π}
 use Rattle.sha3.proofs.permutation.theta_rho_pi.Goals as goal
 
