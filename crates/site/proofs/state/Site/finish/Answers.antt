@@ -10,7 +10,7 @@ invariant_of-self g c =
     let l : length (slots c.in-Ok-verify.running.version) ≡ length (slots s.version) =
     version_length_is g.S.Scheme.len g.D.Digest.means (g.S.Scheme.means c.args.scheme.now) (state s) (operation_named c.args.ticket) c.args.bytes.now (length c.args.out.now) c.in-Ok.admitted.0 c.in-Ok.admitted.1
     c.in-Ok.ensures c.in-Ok-verify.running c.in-Ok-verify.ensures (s.low, s.high) in
-    (s.low, (omega (arith, s.high, l), (s.wide, tt)))
+    record { low = s.low; high = omega (arith, s.high, l); wide = s.wide }
 
 pub write_commit-length-requires : goal.write_commit-length-requires
 write_commit-length-requires g c =

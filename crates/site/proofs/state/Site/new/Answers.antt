@@ -7,4 +7,4 @@ pub invariant_of-result : goal.invariant_of-result
 invariant_of-result c =
     let z = c.in-Ok.ensures in
     let n = ap length z.1 ∙ length-replicate c.args.size unseen in
-    (omega arith, (omega arith, (refl, tt)))
+    record { low = omega arith; high = omega arith; wide = refl }
