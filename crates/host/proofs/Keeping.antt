@@ -1,21 +1,19 @@
 -- Slots written into a buffer that has room for any.
-use Rattle.std.proofs.Common.{◌≡◌, ℕ, ◌+◌, ◌-◌, ◌*◌, ◌≤◌, List, ◌++◌, length, take, drop, Some, None, Ok, Err, Option, Result, sym, refl, ap, ◌∙◌, arith}
+use Rattle.std.proofs.Common.{◌≡◌, ℕ, ◌+◌, ◌-◌, ◌≤◌, List, length, take, drop, Some, None, Ok, Err, Option, Result, sym, refl, ap, arith}
 use native.Mathlib.Nat.{min-le_left}
 use Rattle.std.proofs.lemmas.List.FromFn.{length-map-range_with_len}
 use Rattle.std.proofs.lemmas.List.{length-append, length-take, take_at}
 use Rattle.std.proofs.lemmas.Bool.{cases_lt}
 use Rattle.octets.specs.Field.{Field}
-use Rattle.octets.specs.Numbers.{big_endian}
 use Rattle.octets.proofs.Numbers.{length-big_endian}
 use Rattle.version.specs.declared.version.Version.{Version}
-use Rattle.version.specs.Calls.{bytes_of}
 use Rattle.version.specs.Order.{Slot as Stamp}
 use Rattle.version.specs.Version.{slot_of, slots}
 use Rattle.version.proofs.LayoutLaws.{version-length}
 use Rattle.message.specs.declared.refusal.Refusal.{Refusal}
 use Rattle.message.specs.declared.refusal.Refusal.TheVariants.{OutOfRange, ValueTooLong, BadField, BufferTooShort}
 use Rattle.message.specs.Fields.{value}
-use Rattle.message.specs.Slots.{StoredValue, value_slot, StoredVersion, version_slot}
+use Rattle.message.specs.Slots.{StoredValue, value_slot, version_slot}
 use Rattle.message.specs.Writes.{TooLong, Writes}
 use Rattle.store.specs.declared.fault.Fault.{Fault}
 use Rattle.store.specs.declared.fault.Fault.TheVariants.{OutOfRange as NoSite, TooLong as SlotTooLong, NoRewriteLeft, BufferTooShort as NoRoom}

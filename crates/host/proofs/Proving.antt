@@ -1,5 +1,5 @@
 -- The proof signatures of all sites, one behind the other.
-use Rattle.std.proofs.Common.{◌≡◌, ℕ, zero, suc, ◌+◌, ◌-◌, ◌*◌, ◌<◌, ◌≤◌, List, map, length, take, drop, sym, refl, ap, ◌∙◌, add-zero, mul-le-mul, mul-le-mul_left, mul-suc, arith, below_more}
+use Rattle.std.proofs.Common.{◌≡◌, ℕ, zero, suc, ◌+◌, ◌-◌, ◌*◌, ◌<◌, ◌≤◌, List, map, length, drop, sym, refl, ap, ◌∙◌, add-zero, mul-le-mul, mul-le-mul_left, mul-suc, arith, below_more}
 use borrow.Rule.Slice.PartMut.{put_mid}
 use Rattle.std.specs.List.{range_with_len}
 use Rattle.std.proofs.lemmas.List.{length-append, length-drop, length-take-le, drop-take}

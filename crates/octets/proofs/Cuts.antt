@@ -1,8 +1,8 @@
 -- A cut that has its bytes, as the specification and as the code's patterns have it.
-use Rattle.std.proofs.Common.{◌≡◌, ℕ, zero, suc, ◌+◌, ◌-◌, ◌<◌, ◌≤◌, Bool, true, false, cond, leb, List, [], ◌∷◌, length, get_or, take, drop, sym, refl, ap, ◌∙◌, add-one, arith}
+use Rattle.std.proofs.Common.{◌≡◌, ℕ, zero, suc, ◌+◌, ◌-◌, ◌≤◌, true, leb, List, [], ◌∷◌, length, get_or, take, drop, sym, refl, ap, ◌∙◌, add-one, arith}
 use Rattle.std.proofs.lemmas.List.{take_rest, drop_more}
 use Rattle.octets.specs.Numbers.{number}
-use Rattle.octets.specs.Field.{Got, good, bad, cut, numeral}
+use Rattle.octets.specs.Field.{good, cut, numeral}
 
 pub cut_good : {A : Type 0} (size : ℕ) (v : A) (bs : List ℕ) → size ≤ length bs → cut size v bs ≡ good v (drop size bs)
 cut_good size v bs h = let e : leb size (length bs) ≡ true = grind arith in rw e

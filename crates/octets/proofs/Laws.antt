@@ -1,8 +1,8 @@
 -- Each kind of field, and each way to join fields, reads back what it wrote and writes back what it read.
-use Rattle.std.proofs.Common.{◌≡◌, ℕ, zero, suc, ◌+◌, ◌-◌, ◌^◌, ◌<◌, ◌≤◌, Bool, true, false, cond, leb, List, [], ◌∷◌, ◌++◌, length, get_or, take, drop, Ok, Err, Result, sym, refl, ap, ◌∙◌, subst, arith}
+use Rattle.std.proofs.Common.{◌≡◌, ℕ, zero, suc, ◌+◌, ◌-◌, ◌<◌, ◌≤◌, Bool, true, false, cond, leb, List, [], ◌∷◌, ◌++◌, length, get_or, take, drop, Ok, Err, sym, refl, ap, ◌∙◌, subst, arith}
 use Rattle.std.proofs.lemmas.List.{append_assoc, append-nil, get_or-append-add, take_at, drop_at, take-append-drop, length-take-le, length-append}
 use Rattle.octets.specs.Numbers.{Bytes, number, big_endian}
-use Rattle.octets.specs.Field.{Got, good, bad, next, Field, cut, nothing, numeral, span, checked, only, ◌then◌, from_start, joint, shaped, put_all, get_all, GoodAll, times, ended, whole, read, Undoes}
+use Rattle.octets.specs.Field.{Got, good, bad, next, Field, cut, nothing, numeral, span, checked, only, ◌then◌, from_start, joint, shaped, put_all, get_all, GoodAll, times, whole, read, Undoes}
 use Rattle.octets.proofs.Cuts.{cut_good}
 use Rattle.octets.proofs.Numbers.{length-big_endian, number-big_endian, big_endian-number}
 

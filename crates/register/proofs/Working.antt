@@ -1,5 +1,5 @@
 -- The worked examples.
-use Rattle.std.proofs.Common.{◌≡◌, ℕ, ◌+◌, ◌*◌, ◌<◌, ◌≤◌, List, [], ◌∷◌, length, Ok, Err, Result, sym, refl, ap, ◌∙◌, subst, arith, lit≤}
+use Rattle.std.proofs.Common.{◌≡◌, ℕ, ◌≤◌, List, length, Ok, Err, Result, sym, refl, ap, ◌∙◌, subst, arith, lit≤}
 use Rattle.octets.specs.Field.{read}
 use Rattle.message.specs.declared.code.Code.{Code}
 use Rattle.message.specs.declared.refusal.Refusal.TheVariants.{BadField}
@@ -12,7 +12,7 @@ use Rattle.version.proofs.OrderLaws.{examples}
 use Rattle.rules.specs.declared.fault.Fault.{Fault}
 use Rattle.rules.specs.declared.fault.Fault.TheVariants.{Message, OutOfOrder, ListFull, Store, BufferTooShort as NoRoom}
 use Rattle.rules.specs.declared.phase.Phase.{Phase}
-use Rattle.rules.specs.declared.phase.Phase.TheVariants.{Idle, Waiting, Stopped, Retired}
+use Rattle.rules.specs.declared.phase.Phase.TheVariants.{Idle, Waiting}
 use Rattle.rules.specs.declared.refusal.Refusal.{Refusal}
 use Rattle.rules.specs.declared.refusal.Refusal.TheVariants.{OutOfRange, OutOfService, OutOfTurn, ValueTooLong, TimestampLimit, TooFewSignatures, BadField as BadAt, BufferTooShort}
 use Rattle.rules.specs.Begin.{Ended, Waits, write-of, Begins}

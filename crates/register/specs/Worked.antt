@@ -1,5 +1,5 @@
 -- Worked examples, proved together.
-use Rattle.std.specs.Prelude.{◌≡◌, ℕ, ◌+◌, ◌*◌, ◌<◌, ◌≤◌, List, [], ◌∷◌, ◌++◌, length, replicate, Ok, Err, Result}
+use Rattle.std.specs.Prelude.{◌≡◌, ℕ, ◌<◌, ◌≤◌, List, ◌∷◌, ◌++◌, length, replicate, Ok, Err, Result}
 use Rattle.message.specs.declared.code.Code.{Code}
 use Rattle.message.specs.declared.refusal.Refusal.TheVariants.{BadField}
 use Rattle.message.specs.Commit.{Commitment}

@@ -1,8 +1,8 @@
 -- A run of several groups is a run of each of them.
-use Rattle.std.proofs.Common.{◌≡◌, ℕ, Bool, true, false, cond, eqb, List, [], ◌∷◌, sym, refl, ap, subst}
+use Rattle.std.proofs.Common.{◌≡◌, ℕ, Bool, true, false, cond, eqb, List, [], ◌∷◌, refl, subst}
 use Rattle.std.proofs.lemmas.Bool.{eqb-true}
 use Rattle.rules.specs.Group.{Group, SoundParts}
-use Rattle.rules.specs.Runs.{Step, Event, now, Run, GroupEvent, alone, Runs}
+use Rattle.rules.specs.Runs.{Step, now, Run, GroupEvent, alone, Runs}
 
 pub alone_runs : (G : ℕ → Group) (r : List GroupEvent) → Runs G r → (k : ℕ) → Run (G k) (alone k r)
 alone_runs G [] run k = tt

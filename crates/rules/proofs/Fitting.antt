@@ -1,11 +1,10 @@
 -- The digest of a history, and when a version fits one. Histories are newest first here.
-use Rattle.std.proofs.Common.{◌≡◌, ℕ, suc, ◌+◌, ◌<◌, ◌≤◌, eqb, ◌⊎◌, List, [], ◌∷◌, ◌++◌, length, Some, None, Option, sym, refl, ap, ◌∙◌, subst, inl, inr, add-one, arith}
+use Rattle.std.proofs.Common.{◌≡◌, ℕ, ◌+◌, ◌≤◌, ◌⊎◌, List, [], ◌∷◌, length, Some, None, Option, sym, refl, ap, ◌∙◌, subst, inl, inr, arith}
 use Rattle.std.proofs.lemmas.Bool.{cases_eq}
-use Rattle.message.specs.Reply.{Listed}
 use Rattle.version.specs.Order.{Slot, slot_with, unseen, AtOrBelow, SlotAtOrBelow}
 use Rattle.rules.specs.Group.{slot, with_slot, zeros, Member}
-use Rattle.rules.specs.Running.{Running, link, rise, rise_all}
-use Rattle.rules.proofs.Lists.{Ends, times, cut, cut_here, times_here, times_else, times_ends, cut-same, side}
+use Rattle.rules.specs.Running.{Running, link, rise}
+use Rattle.rules.proofs.Lists.{Ends, times, cut, cut_here, times_here, times_ends, cut-same, side}
 use Rattle.rules.proofs.Slots.{slot-set-same, slot_set_other, slot-zeros, length-with_slot, at_or_below_from, same-slots, length-zeros}
 
 module _ (H : List ℕ → List ℕ) {A : Type 0} (of : A → ℕ) where

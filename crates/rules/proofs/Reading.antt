@@ -1,9 +1,9 @@
 -- What is known of a message that was read: it has the form of the group's messages.
-use Rattle.std.proofs.Common.{◌≡◌, ℕ, zero, suc, ◌^◌, ◌<◌, ◌≤◌, Bool, true, false, cond, not, ◌&&◌, ◌||◌, eqb, ltb, leb, ◌⊎◌, List, [], ◌∷◌, length, get_or, replicate, Some, None, Ok, Err, Option, Result, sym, refl, ap, ◌∙◌, subst, inl, inr, arith}
-use Rattle.std.proofs.lemmas.Bool.{and_parts, leb-true, eqb-true, cases_Bool, cond-true, cond-false}
-use Rattle.octets.specs.Field.{Field, read, GoodAll}
+use Rattle.std.proofs.Common.{◌≡◌, ℕ, zero, suc, ◌^◌, ◌<◌, Bool, true, false, cond, not, ◌&&◌, ◌||◌, eqb, ltb, leb, List, [], ◌∷◌, length, get_or, Some, None, Ok, Err, Option, Result, sym, refl, ap, ◌∙◌, subst, arith}
+use Rattle.std.proofs.lemmas.Bool.{and_parts, leb-true, eqb-true, cond-true}
+use Rattle.octets.specs.Field.{read, GoodAll}
 use Rattle.octets.specs.Numbers.{Bytes}
-use Rattle.octets.proofs.Laws.{Lawful, undoes}
+use Rattle.octets.proofs.Laws.{undoes}
 use Rattle.message.specs.declared.code.Code.{Code}
 use Rattle.message.specs.declared.code.Code.TheVariants.{Read, Write}
 use Rattle.message.specs.Code.{code_number}

@@ -1,6 +1,5 @@
 -- A version site by site.
-use Rattle.std.proofs.Common.{◌≡◌, ℕ, zero, suc, ◌+◌, ◌-◌, ◌<◌, ◌≤◌, ◌⊎◌, List, [], ◌∷◌, length, get_or, set, replicate, sym, refl, ap, ◌∙◌, subst, inl, inr, suc-ne-zero, add-one, sub-one, arith, length-set, get_or-set_other, get_or-set_same}
-use native.Mathlib.Nat.{suc_inj}
+use Rattle.std.proofs.Common.{◌≡◌, ℕ, zero, suc, ◌-◌, ◌<◌, ◌≤◌, ◌⊎◌, List, [], ◌∷◌, length, get_or, set, replicate, sym, refl, ap, subst, inl, inr, arith, length-set, get_or-set_other, get_or-set_same}
 use lib.ListN.{length-replicate}
 use Rattle.std.proofs.lemmas.Bool.{cases_eq}
 use Rattle.version.specs.Order.{Slot, unseen, slot_at, AtOrBelow, SlotAtOrBelow}

@@ -1,5 +1,5 @@
 -- The law over all runs.
-use Rattle.std.proofs.Common.{ℕ, List}
+use Rattle.std.proofs.Common.{List}
 use Rattle.rules.specs.Group.{Group, Started}
 use Rattle.rules.specs.Law.{GroupLaw, Law}
 use Rattle.rules.specs.Runs.{Event, Run, alone}

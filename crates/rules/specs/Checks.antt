@@ -1,8 +1,6 @@
 -- What a site checks of a reply, and which stop follows where a check fails.
-use Rattle.std.specs.Prelude.{◌≡◌, ℕ, zero, suc, ◌+◌, ◌<◌, true, ◌⊎◌, List, [], ◌∷◌, length, Some, None, Option, slice_index_or}
+use Rattle.std.specs.Prelude.{◌≡◌, ℕ, zero, suc, ◌+◌, ◌<◌, true, ◌⊎◌, List, [], ◌∷◌, Some, None, Option, slice_index_or}
 use Rattle.std.specs.Option.{option_map}
-use Rattle.message.specs.declared.code.Code.{Code}
-use Rattle.message.specs.declared.code.Code.TheVariants.{Read, Write}
 use Rattle.message.specs.Reply.{Listed, Held, Response}
 use Rattle.message.specs.Strings.{submit_string, data_string, commit_string, proof_string}
 use Rattle.signature.specs.Meaning.{SchemeMeaning}
@@ -10,7 +8,7 @@ use Rattle.version.specs.Order.{Slot, AtOrBelow}
 use Rattle.rules.specs.declared.stop.Stop.{Stop}
 use Rattle.rules.specs.declared.stop.Stop.TheVariants.{CommitSignature, Forked, ProofSignature, OwnEntry, SubmitSignature, OwnerSignature, DataSignature, OwnerVersion, OwnerTimestamp}
 use Rattle.rules.specs.Group.{Setup, SiteState, slot, zeros, own, max_timestamp}
-use Rattle.rules.specs.Running.{Running, from_reply, rise, rise_all, result}
+use Rattle.rules.specs.Running.{Running, from_reply, rise, result}
 
 -- the proof signature of the site i in a reply
 abbrev pub proof_of : List (List ℕ) → ℕ → List ℕ

@@ -8,8 +8,8 @@ use Rattle.rules.specs.declared.phase.Phase.TheVariants.{Stopped}
 use Rattle.rules.specs.declared.stop.Stop.TheVariants.{Forked}
 use Rattle.rules.specs.Group.{Group, Started}
 use Rattle.rules.specs.Finish.{Operation, Completion, stopped}
-use Rattle.rules.specs.Runs.{Call, finish, Event, now, Run}
-use Rattle.rules.specs.Shown.{◌∈◌, completions, value_found}
+use Rattle.rules.specs.Runs.{finish, Event, now, Run}
+use Rattle.rules.specs.Shown.{completions, value_found}
 use Rattle.rules.specs.History.{operation, history}
 use Rattle.rules.specs.Law.{Replays, Delivers}
 

@@ -1,9 +1,7 @@
 -- View histories: which operations a finished operation has seen, oldest first.
 use Rattle.std.specs.Prelude.{◌≡◌, ℕ, ◌+◌, Bool, cond, ◌&&◌, List, [], ◌∷◌, ◌++◌, Some, None, Option, ◌==◌}
-use Rattle.message.specs.declared.code.Code.TheVariants.{Read, Write}
 use Rattle.message.specs.Reply.{Listed}
 use Rattle.message.specs.Submit.{Submission}
-use Rattle.version.specs.Order.{Slot}
 use Rattle.rules.specs.Group.{slot}
 use Rattle.rules.specs.Finish.{Operation, Completion}
 use Rattle.rules.specs.Shown.{is_zero}

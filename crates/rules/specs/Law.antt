@@ -1,6 +1,6 @@
 -- The law over all runs.
-use Rattle.std.specs.Prelude.{◌≡◌, ℕ, cond, ◌⊎◌, ◌↔◌, List, [], ◌∷◌, ◌++◌, map, Some, None, Option, ◌==◌, ◌≢◌}
-use Rattle.message.specs.declared.code.Code.TheVariants.{Read, Write}
+use Rattle.std.specs.Prelude.{◌≡◌, ℕ, cond, ◌⊎◌, ◌↔◌, List, [], ◌∷◌, ◌++◌, map, None, Option, ◌==◌, ◌≢◌}
+use Rattle.message.specs.declared.code.Code.TheVariants.{Read}
 use Rattle.message.specs.Commit.{commit}
 use Rattle.message.specs.Reply.{reply}
 use Rattle.message.specs.Submit.{Submission, submit}
@@ -10,9 +10,9 @@ use Rattle.rules.specs.declared.phase.Phase.TheVariants.{Stopped}
 use Rattle.rules.specs.Group.{Group, Member, Started, slot}
 use Rattle.rules.specs.Finish.{Operation, Completion}
 use Rattle.rules.specs.Taking.{Exchange, value_with}
-use Rattle.rules.specs.Runs.{Call, begin, finish, abandon, take-submit, take-commit, Event, now, Run, GroupEvent, alone, Runs}
-use Rattle.rules.specs.Shown.{◌∈◌, Each, deed, completion_in, submissions, completions, exchanges, Signing, signed, checked, digested, value_found}
-use Rattle.rules.specs.History.{operation, operation_of, count, history, Front, last_written, or_else}
+use Rattle.rules.specs.Runs.{Call, begin, finish, abandon, take-submit, take-commit, Event, now, GroupEvent, alone, Runs}
+use Rattle.rules.specs.Shown.{◌∈◌, Each, deed, completion_in, submissions, completions, exchanges, signed, checked, digested, value_found}
+use Rattle.rules.specs.History.{operation, operation_of, count, history, Front, last_written}
 
 -- the value last written to the register j among these submits, newest first
 abbrev pub last_taken : ℕ → List Submission → Option (List ℕ)

@@ -1,14 +1,13 @@
 -- What a run shows: what was begun, finished and taken, what was signed, checked and digested. Every list has its newest item first.
 use Rattle.std.specs.Prelude.{◌≡◌, ℕ, zero, suc, ◌+◌, Bool, true, cond, ◌&&◌, ◌⊎◌, List, [], ◌∷◌, ◌++◌, Some, None, Ok, Err, Option, ◌==◌}
 use Rattle.std.specs.Option.{option_map, unwrap_or}
-use Rattle.message.specs.Commit.{Commitment}
 use Rattle.message.specs.Reply.{Listed, Held, Response}
 use Rattle.message.specs.Strings.{submit_string, data_string, commit_string, proof_string}
 use Rattle.message.specs.Submit.{Submission}
 use Rattle.version.specs.Order.{Slot}
 use Rattle.rules.specs.Group.{GroupState, Group, slot}
 use Rattle.rules.specs.Begin.{Request, read_of, write-of, last_with}
-use Rattle.rules.specs.Running.{Running, from_reply, rise, result, all_links}
+use Rattle.rules.specs.Running.{Running, from_reply, rise, all_links}
 use Rattle.rules.specs.Checks.{proof_of}
 use Rattle.rules.specs.Finish.{Completion, finished, refused, stopped}
 use Rattle.rules.specs.Taking.{Exchange}

@@ -5,7 +5,6 @@ use Rattle.std.specs.List.{range_with_len}
 use Rattle.octets.specs.Field.{read}
 use Rattle.message.specs.declared.code.Code.{Code}
 use Rattle.message.specs.declared.code.Code.TheVariants.{Read, Write}
-use Rattle.message.specs.declared.refusal.Refusal.{Refusal}
 use Rattle.message.specs.declared.refusal.Refusal.TheVariants.{BadField}
 use Rattle.message.specs.Commit.{Commitment, commit}
 use Rattle.message.specs.Reply.{Listed, Held, Response, reply}

@@ -1,18 +1,18 @@
 -- What can be refused at a finish before the reply is checked.
-use Rattle.std.proofs.Common.{◌≡◌, ℕ, ◌+◌, ◌*◌, ◌<◌, ◌≤◌, cond, eqb, List, length, Ok, Err, Result, sym, refl, ap, ◌∙◌, subst, arith}
+use Rattle.std.proofs.Common.{◌≡◌, ℕ, ◌+◌, ◌*◌, ◌<◌, ◌≤◌, eqb, List, length, Ok, Err, sym, ap, ◌∙◌}
 use Rattle.std.proofs.lemmas.Bool.{eq-eqb, cond-true}
 use Rattle.octets.specs.Field.{read}
 use Rattle.message.specs.declared.code.Code.{Code}
 use Rattle.message.specs.declared.reply.Reply.{Reply}
 use Rattle.message.specs.Code.{code_number}
-use Rattle.message.specs.Reply.{Response, reply, response}
+use Rattle.message.specs.Reply.{reply, response}
 use Rattle.rules.specs.declared.refusal.Refusal.{Refusal}
 use Rattle.rules.specs.declared.refusal.Refusal.TheVariants.{OutOfRange, OutOfService, OutOfTurn, ValueTooLong, TimestampLimit, TooFewSignatures, BadField, BufferTooShort}
 use Rattle.rules.specs.Finish.{Operation, Awaits, expecting, read_reply}
 use Rattle.rules.specs.Group.{SiteState}
 use Rattle.signature.specs.Meaning.{SchemeMeaning}
 use Rattle.site.specs.Checking.{WellRead, answered, size_of}
-use Rattle.site.specs.Finishing.{ReadsReply, Admitted, Admits}
+use Rattle.site.specs.Finishing.{ReadsReply, Admits}
 use Rattle.site.specs.State.{setup}
 
 -- a reply to the operation

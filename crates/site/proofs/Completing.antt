@@ -1,7 +1,6 @@
 -- A finish whose reply was checked: it is completed, or the site stops.
-use Rattle.std.proofs.Common.{◌≡◌, ℕ, ◌+◌, ◌*◌, ◌≤◌, List, [], ◌++◌, length, Some, Ok, Err, Option, unwrap_or, sym, refl, ap, ◌∙◌, subst, arith}
+use Rattle.std.proofs.Common.{◌≡◌, ℕ, List, [], length, Ok, Err, Option, unwrap_or, sym, refl, ap, ◌∙◌, subst, arith}
 use Rattle.std.proofs.lemmas.List.{length-append}
-use Rattle.message.specs.declared.place.Place.{Place}
 use Rattle.message.specs.declared.reply.Reply.{Reply}
 use Rattle.message.specs.Reply.{Response, response}
 use Rattle.message.specs.Strings.{proof_string}
@@ -17,9 +16,8 @@ use Rattle.version.proofs.LayoutLaws.{version-length}
 use Rattle.version.specs.Order.{Slot}
 use Rattle.version.specs.Version.{slots}
 use Rattle.site.specs.declared.running.Running.{Running}
-use Rattle.site.specs.Checking.{Verifies, size_of}
+use Rattle.site.specs.Checking.{Verifies}
 use Rattle.site.specs.Finishing.{Admitted, Commits, Told, place_of}
-use Rattle.site.specs.Running.{running}
 use Rattle.site.specs.State.{setup}
 use Rattle.site.proofs.Reading.{placed}
 use Rattle.site.proofs.Verifying.{all_length}

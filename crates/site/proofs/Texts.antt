@@ -1,8 +1,7 @@
 -- Signatures at places of the bytes, and the strings that they sign at the front of a buffer.
-use Rattle.std.proofs.Common.{◌≡◌, ℕ, ◌+◌, ◌-◌, ◌*◌, ◌≤◌, Bool, List, ◌++◌, length, take, drop, Some, None, Option, sym, ap, ◌∙◌, arith}
+use Rattle.std.proofs.Common.{◌≡◌, ℕ, ◌+◌, ◌-◌, ◌≤◌, Bool, List, ◌++◌, length, take, drop, Some, None, Option, sym, ap, ◌∙◌, arith}
 use Rattle.std.proofs.lemmas.List.FromFn.{length-map-range_with_len}
 use Rattle.std.proofs.lemmas.List.{length-append, length-take, length-drop, take_at}
-use Rattle.message.specs.declared.place.Place.{Place}
 use Rattle.message.specs.Places.{PartOf, bytes_at}
 use Rattle.message.specs.Strings.{commit_string, data_string, WideDigest}
 use Rattle.signature.specs.Meaning.{SchemeMeaning}

@@ -1,5 +1,5 @@
 -- What the inner calls of a finish answer, and what the writing of its commit leaves.
-use Rattle.std.specs.Prelude.{◌≡◌, ℕ, ◌+◌, ◌*◌, ◌<◌, ◌≤◌, cond, not, ◌&&◌, List, [], ◌++◌, length, Some, None, Ok, Err, Option, Result, ◌==◌, nat_lt, slice_index}
+use Rattle.std.specs.Prelude.{◌≡◌, ℕ, ◌+◌, ◌*◌, ◌≤◌, cond, not, ◌&&◌, List, [], ◌++◌, length, Some, None, Ok, Err, Option, Result, ◌==◌, nat_lt, slice_index}
 use Rattle.std.specs.Option.{unwrap_or}
 use Rattle.octets.specs.Numbers.{big_endian}
 use Rattle.octets.specs.Puts.{Puts}
@@ -11,7 +11,7 @@ use Rattle.message.specs.Code.{code_number}
 use Rattle.message.specs.Strings.{commit_string, proof_string}
 use Rattle.rules.specs.declared.refusal.Refusal.{Refusal}
 use Rattle.rules.specs.declared.refusal.Refusal.TheVariants.{OutOfRange, OutOfService, OutOfTurn, ValueTooLong, TimestampLimit, TooFewSignatures, BadField, BufferTooShort}
-use Rattle.rules.specs.Finish.{Operation, Awaits, FinishRefused, read_reply, commit_size}
+use Rattle.rules.specs.Finish.{Operation, Awaits, FinishRefused, read_reply}
 use Rattle.rules.specs.Group.{SiteState, slot}
 use Rattle.signature.specs.Calls.{Made}
 use Rattle.signature.specs.Meaning.{SchemeMeaning}

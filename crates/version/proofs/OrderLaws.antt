@@ -1,10 +1,8 @@
 -- The order of versions: its laws, how two versions stand to each other, and the worked examples.
-use Rattle.std.proofs.Common.{◌≡◌, ℕ, zero, suc, ◌+◌, ◌<◌, ◌≤◌, Bool, true, false, ◌&&◌, List, [], ◌∷◌, Decides, Option, unwrap_or, refl, ap, ◌∙◌, subst, arith, below_more}
+use Rattle.std.proofs.Common.{◌≡◌, ℕ, zero, suc, ◌+◌, ◌<◌, Bool, true, false, ◌&&◌, List, [], Decides, unwrap_or, refl, ap, ◌∙◌, subst, arith, below_more}
 use Rattle.std.proofs.lemmas.List.{ext_get_or}
 use Rattle.std.proofs.lemmas.Bool.Decides.{Decides-like, Decides-and, not_from_Decides}
 use Rattle.version.specs.declared.version.Version.{Version}
-use Rattle.version.specs.declared.order.Order.{Order}
-use Rattle.version.specs.declared.order.Order.TheVariants.{Equal, Below, Above, Apart}
 use Rattle.version.specs.Examples.{Examples, seen, pair}
 use Rattle.version.specs.Order.{Slot, slot_with, unseen, slot_at, SlotAtOrBelow, AtOrBelow, Stands, order_by, PartialOrder}
 use Rattle.version.specs.Version.{slot_of, slots}

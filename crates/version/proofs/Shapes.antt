@@ -1,7 +1,7 @@
 -- What every version keeps: it holds at the start, and where one site's entry changes.
-use Rattle.std.proofs.Common.{◌≡◌, ℕ, zero, suc, ◌<◌, ◌≤◌, ltb, List, [], ◌∷◌, length, get_or, set, replicate, is_some, Some, None, Option, sym, refl, subst, ⊎_elim, arith}
+use Rattle.std.proofs.Common.{◌≡◌, ℕ, zero, suc, ◌<◌, ◌≤◌, ltb, List, length, get_or, set, replicate, is_some, None, Option, sym, refl, subst, ⊎_elim, arith}
 use Rattle.std.proofs.lemmas.List.{get_or-set_same, get_or-set_other, length-replicate}
-use Rattle.std.proofs.lemmas.Bool.{cases_eq, lt-ltb}
+use Rattle.std.proofs.lemmas.Bool.{cases_eq}
 use Rattle.version.specs.Shape.{Small, Told, Bounded, Wide, digest_bytes}
 
 pub get_D_none : {A : Type 0} (n k : ℕ) (a : A) → get_or (replicate n a) k a ≡ a

@@ -1,5 +1,5 @@
 -- From the writes of parts to the write of a version.
-use Rattle.std.proofs.Common.{◌≡◌, ℕ, ◌+◌, ◌*◌, ◌<◌, ◌≤◌, List, ◌++◌, length, get_or, take, drop, Some, None, Option, sym, refl, ap, ◌∙◌, arith}
+use Rattle.std.proofs.Common.{◌≡◌, ℕ, ◌+◌, ◌<◌, List, length, get_or, take, Some, None, Option, refl, ◌∙◌, arith}
 use Rattle.std.specs.Option.{ok_or}
 use Rattle.std.proofs.lemmas.List.{take_more}
 use Rattle.octets.specs.Field.{put_all}
@@ -12,7 +12,7 @@ use Rattle.version.specs.declared.refusal.Refusal.TheVariants.{BufferTooShort}
 use Rattle.version.specs.declared.version.Version.{Version}
 use Rattle.version.specs.Calls.{Writes, bytes_of}
 use Rattle.version.specs.Layout.{slot_field}
-use Rattle.version.specs.Order.{slot_at, unseen}
+use Rattle.version.specs.Order.{unseen}
 use Rattle.version.specs.Shape.{digest_bytes}
 use Rattle.version.specs.Steps.{PutsSlot}
 use Rattle.version.specs.Version.{slot_of, slots}

@@ -1,6 +1,5 @@
 -- Worked examples of the order, in a group of two sites.
-use Rattle.std.specs.Prelude.{◌≡◌, ℕ, List, [], ◌∷◌, Some, ◌≢◌}
-use Rattle.version.specs.declared.order.Order.{Order}
+use Rattle.std.specs.Prelude.{ℕ, List, [], ◌∷◌, Some, ◌≢◌}
 use Rattle.version.specs.declared.order.Order.TheVariants.{Equal, Below, Apart}
 use Rattle.version.specs.Order.{Slot, slot_with, unseen, AtOrBelow, Stands}
 

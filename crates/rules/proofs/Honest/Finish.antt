@@ -2,7 +2,6 @@
 use Rattle.std.proofs.Common.{◌≡◌, ℕ, suc, ◌+◌, ◌^◌, ◌<◌, true, ◌⊎◌, List, [], ◌∷◌, ◌++◌, map, length, Ok, Option, unwrap_or, sym, refl, ap, ◌∙◌, subst, subst₂, inl, inr, arith}
 use Rattle.std.specs.Option.{option_map}
 use Rattle.std.proofs.lemmas.Bool.{cases_eq}
-use Rattle.octets.specs.Field.{read}
 use Rattle.message.specs.declared.code.Code.{Code}
 use Rattle.message.specs.declared.code.Code.TheVariants.{Read, Write}
 use Rattle.message.specs.Commit.{commit}

@@ -10,7 +10,7 @@ use Rattle.message.specs.Heads.{reply_head}
 use Rattle.message.specs.Reply.{Listed, Response, reply, entry, entries, found}
 use Rattle.message.specs.Submit.{Submission}
 use Rattle.signature.specs.Meaning.{SchemeMeaning}
-use Rattle.rules.specs.Group.{Setup, SetUp, Member, slot}
+use Rattle.rules.specs.Group.{Setup, SetUp, Member}
 use Rattle.rules.specs.Running.{Running, from_reply, rise, rise_all, result}
 use Rattle.rules.specs.Checks.{proof_of}
 use Rattle.rules.specs.Taking.{Exchange, version_at, own_at, value_after, entry_of, found_at, replied}

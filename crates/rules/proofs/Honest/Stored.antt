@@ -11,7 +11,7 @@ use Rattle.store.specs.declared.slot.Slot.TheVariants.{Value, Version}
 use Rattle.store.specs.Meaning.{StoreMeaning, Empty}
 use Rattle.version.specs.Layout.{slot_field, digest_field, all_zero}
 use Rattle.version.specs.Order.{Slot, unseen, slot_at}
-use Rattle.rules.specs.Group.{Setup, zeros, slot}
+use Rattle.rules.specs.Group.{Setup, zeros}
 use Rattle.rules.specs.Running.{link}
 use Rattle.rules.specs.Taking.{value_at, version_at}
 use Rattle.rules.proofs.Lists.{times, cut, times_cut}

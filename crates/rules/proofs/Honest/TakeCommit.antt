@@ -10,7 +10,7 @@ use Rattle.signature.specs.Meaning.{SchemeMeaning}
 use Rattle.store.specs.Meaning.{StoreMeaning}
 use Rattle.rules.specs.Group.{Setup, SiteState, HostState, GroupState, slot}
 use Rattle.rules.specs.Finish.{Completion}
-use Rattle.rules.specs.Taking.{Exchange, value_at, version_at, own_at, after_last, nowhere_below, somewhere_above, leads, committed, version_stored, TookCommit}
+use Rattle.rules.specs.Taking.{Exchange, value_at, version_at, own_at, after_last, nowhere_below, somewhere_above, leads, version_stored, TookCommit}
 use Rattle.rules.specs.Runs.{OnlyHost}
 use Rattle.rules.specs.Shown.{◌∈◌}
 use Rattle.rules.proofs.Lists.{Ends, ends_refl, ends_trans, times-append, times_ends, past-cut, past_new, cut_ends, cut-same, cut_skip, cut_new, one_cut}

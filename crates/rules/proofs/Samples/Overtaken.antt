@@ -1,5 +1,5 @@
 -- A read that finishes before the write that it saw, with our host.
-use Rattle.std.proofs.Common.{◌≡◌, ℕ, ◌⊎◌, List, [], ◌∷◌, Some, None, Ok, Option, refl, inl, inr, le_refl, arith, lit<, lit≤}
+use Rattle.std.proofs.Common.{ℕ, List, [], ◌∷◌, Some, None, Ok, Option, refl, inl, inr, le_refl, arith, lit<, lit≤}
 use Rattle.message.specs.declared.code.Code.TheVariants.{Read, Write}
 use Rattle.message.specs.declared.place.Place.{Place}
 use Rattle.message.specs.Reply.{Response}
@@ -11,9 +11,9 @@ use Rattle.version.specs.Order.{Slot, AtOrBelow}
 use Rattle.rules.specs.Group.{SiteState, HostState, GroupState, new_site, new_host}
 use Rattle.rules.specs.Begin.{Request, read_of, write-of, begun}
 use Rattle.rules.specs.Checks.{Passes}
-use Rattle.rules.specs.Finish.{Operation, Completion, completed, finished}
+use Rattle.rules.specs.Finish.{Completion, completed, finished}
 use Rattle.rules.specs.Taking.{replied, stored}
-use Rattle.rules.specs.Runs.{Call, begin, finish, take-submit, Step, Event, Run}
+use Rattle.rules.specs.Runs.{begin, finish, take-submit, Step, Event, Run}
 use Rattle.rules.specs.History.{operation}
 use Rattle.rules.specs.Law.{Replays, Delivers}
 use Rattle.rules.specs.Examples.{Overtaken}

@@ -1,6 +1,5 @@
 -- The steps of sample runs: each is the rule of its call, at a site or a host whose checks pass.
-use Rattle.std.proofs.Common.{◌≡◌, ℕ, zero, suc, ◌+◌, ◌<◌, ◌≤◌, Bool, true, false, cond, ◌&&◌, ◌||◌, eqb, ltb, leb, ◌⊎◌, List, [], ◌∷◌, ◌++◌, length, drop, replicate, Some, None, Ok, Err, Option, unwrap_or, sym, refl, ap, ◌∙◌, subst, inl, inr, lit<, lit≤}
-use Rattle.std.proofs.lemmas.Bool.{leb-true, ltb-true}
+use Rattle.std.proofs.Common.{◌≡◌, ℕ, ◌+◌, ◌<◌, ◌≤◌, true, List, [], ◌∷◌, ◌++◌, length, drop, replicate, Ok, Option, unwrap_or, refl, lit≤}
 use Rattle.octets.specs.Field.{read}
 use Rattle.message.specs.declared.place.Place.{Place}
 use Rattle.message.specs.Commit.{Commitment, commit}
@@ -9,8 +8,8 @@ use Rattle.message.specs.Slots.{value_slot}
 use Rattle.message.specs.Strings.{submit_string, data_string, commit_string, proof_string}
 use Rattle.message.specs.Submit.{Submission, submit}
 use Rattle.store.specs.Meaning.{StoreMeaning}
-use Rattle.store.specs.declared.slot.Slot.TheVariants.{Value, Version}
-use Rattle.rules.specs.declared.phase.Phase.TheVariants.{Idle, Waiting}
+use Rattle.store.specs.declared.slot.Slot.TheVariants.{Value}
+use Rattle.rules.specs.declared.phase.Phase.TheVariants.{Idle}
 use Rattle.rules.specs.Group.{SiteState, HostState, own, max_timestamp}
 use Rattle.rules.specs.Begin.{Request, code_of, register_of, value_of, Ranged, Short, submit_size, begun, Begins}
 use Rattle.rules.specs.Running.{result}

@@ -1,16 +1,16 @@
 -- A group of two sites over a small digest, a scheme that takes every signature, and an empty store, for sample runs.
-use Rattle.std.proofs.Common.{◌≡◌, ℕ, zero, suc, ◌+◌, ◌<◌, ◌≤◌, Bool, true, false, cond, ◌&&◌, eqb, ltb, leb, ◌⊎◌, List, [], ◌∷◌, ◌++◌, reverse, length, get_or, take, drop, replicate, Some, None, Option, sym, refl, ap, ◌∙◌, subst, inl, inr, le_refl, arith, lit<, lit≤, length-append}
+use Rattle.std.proofs.Common.{◌≡◌, ℕ, zero, suc, ◌≤◌, Bool, true, false, cond, ◌&&◌, eqb, ltb, leb, ◌⊎◌, List, [], ◌∷◌, ◌++◌, reverse, length, take, replicate, sym, refl, ap, ◌∙◌, subst, inl, inr, le_refl, arith, lit<, lit≤, length-append}
 use lib.ListN.{length-replicate}
 use Rattle.std.proofs.lemmas.List.{length-take-le}
 use Rattle.std.proofs.lemmas.Bool.{and_parts, leb-true, eqb-true, ltb-true, cases_eq, cond-true, cond-false, eq-eqb, ne_eqb, both_ways}
 use Rattle.octets.specs.Numbers.{Bytes}
 use Rattle.signature.specs.Calls.{Made}
-use Rattle.signature.specs.Meaning.{SchemeMeaning, Site, Fits}
+use Rattle.signature.specs.Meaning.{SchemeMeaning, Fits}
 use Rattle.store.specs.Calls.{Replaced}
 use Rattle.store.specs.Meaning.{StoreMeaning, Sound}
 use Rattle.store.specs.declared.slot.Slot.{Slot as StoreSlot}
 use Rattle.store.specs.declared.slot.Slot.TheVariants.{Value, Version}
-use Rattle.rules.specs.Group.{Setup, SiteState, HostState, GroupState, Group, Member, SetUp, SoundParts, Started, new_site, new_host}
+use Rattle.rules.specs.Group.{Setup, SiteState, HostState, GroupState, Group, SoundParts, Started, new_site, new_host}
 use Rattle.rules.specs.Runs.{OnlySite}
 
 -- the last 32 bytes, the last one first

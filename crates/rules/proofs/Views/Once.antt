@@ -4,7 +4,6 @@ use Rattle.version.specs.Order.{Slot}
 use Rattle.rules.specs.Group.{Setup, slot}
 use Rattle.rules.specs.Finish.{Completion}
 use Rattle.rules.specs.Shown.{◌∈◌}
-use Rattle.rules.specs.History.{operation}
 use Rattle.rules.proofs.Views.Sites.{current}
 use Rattle.rules.proofs.Views.Accepted.{Accepted, Chain, own_is}
 

@@ -1,4 +1,4 @@
-use Rattle.std.proofs.Common.{map, vec_items, sym, ap, ◌∙◌, arith}
+use Rattle.std.proofs.Common.{map, vec_items, ap, ◌∙◌, arith}
 use Rattle.site.specs.State.{state}
 use Rattle.register.proofs.Sites.{sites_more}
 use Rattle.register.proofs.starting.all_sites.Goals as goal

@@ -1,4 +1,4 @@
-use Rattle.std.proofs.Common.{map, vec_items, sym, refl, ap, ◌∙◌, subst, arith}
+use Rattle.std.proofs.Common.{map, vec_items, refl, ◌∙◌}
 use Rattle.site.specs.State.{state}
 use Rattle.register.proofs.Sites.{all_new}
 use Rattle.register.proofs.starting.make.Goals as goal

@@ -1,4 +1,4 @@
-use Rattle.std.proofs.Common.{ℕ, List, length, Ok, ap, ◌∙◌, subst, arith}
+use Rattle.std.proofs.Common.{ℕ, List, length, Ok, ap, subst, arith}
 use Rattle.message.specs.Strings.{commit_string}
 use Rattle.signature.specs.Calls.{SignsAt}
 use Rattle.version.specs.Version.{slots}

@@ -1,4 +1,4 @@
-use Rattle.std.proofs.Common.{◌-◌, sym, ◌∙◌, arith}
+use Rattle.std.proofs.Common.{◌-◌, sym, arith}
 use Rattle.site.proofs.Proving.{proved}
 use Rattle.site.proofs.Texts.{within}
 use Rattle.site.proofs.entries.digest_proved.Goals as goal

@@ -1,4 +1,4 @@
-use Rattle.std.proofs.Common.{◌+◌, ◌%◌, ◌++◌, length, drop, ap, ◌∙◌, zero-add, arith, lit<, length-append}
+use Rattle.std.proofs.Common.{◌%◌, ◌++◌, length, drop, ap, ◌∙◌, zero-add, arith, lit<, length-append}
 use Rattle.digest.proofs.Blocks.{holds_more, holds-part}
 use Rattle.sha256.specs.Compression.{compressed}
 use Rattle.sha256.specs.Sha256.{Initial}

@@ -1,9 +1,7 @@
-use Rattle.std.proofs.Common.{◌≡◌, ℕ, ◌≤◌, length, Ok, Err, Result, sym, ◌∙◌, subst, subst₂, arith}
+use Rattle.std.proofs.Common.{ℕ, ◌≤◌, length, Ok, Err, subst₂, arith}
 use Rattle.std.proofs.lemmas.Result.{err_from_is_err_and}
-use Rattle.message.specs.declared.reply.Reply.{Reply}
 use Rattle.rules.specs.declared.refusal.Refusal.{Refusal}
-use Rattle.version.specs.Version.{slots}
-use Rattle.site.specs.Finishing.{ReadsReply, Admits}
+use Rattle.site.specs.Finishing.{ReadsReply}
 use Rattle.site.specs.State.{state, operation_named}
 use Rattle.site.proofs.Admitting.{unread, no_room}
 use Rattle.site.proofs.Ranges.{signer}

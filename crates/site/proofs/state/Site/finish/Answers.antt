@@ -1,4 +1,4 @@
-use Rattle.std.proofs.Common.{◌≡◌, ℕ, ◌≤◌, length, refl, ◌∙◌, arith}
+use Rattle.std.proofs.Common.{◌≡◌, length, refl, ◌∙◌, arith}
 use Rattle.version.specs.Version.{slots}
 use Rattle.site.specs.State.{state, operation_named}
 use Rattle.site.proofs.Completing.{stopped_by, version_length_is, told, completed_by}

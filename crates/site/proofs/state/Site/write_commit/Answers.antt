@@ -1,4 +1,4 @@
-use Rattle.std.proofs.Common.{◌≡◌, ℕ, List, [], ◌++◌, length, Option, unwrap_or, sym, ap, ◌∙◌, subst, arith}
+use Rattle.std.proofs.Common.{ℕ, List, [], ◌++◌, length, Option, unwrap_or, sym, ap, ◌∙◌, subst, arith}
 use Rattle.octets.proofs.Places.{◌⨾◌}
 use Rattle.octets.specs.Puts.{Puts}
 use Rattle.message.specs.Strings.{proof_string}

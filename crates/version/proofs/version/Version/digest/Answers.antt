@@ -1,5 +1,5 @@
-use Rattle.std.proofs.Common.{sym, ap, ◌∙◌, arith}
-use Rattle.version.proofs.SlotLaws.{slots_length, slot_here}
+use Rattle.std.proofs.Common.{ap, ◌∙◌}
+use Rattle.version.proofs.SlotLaws.{slot_here}
 use Rattle.version.proofs.version.Version.digest.Goals as goal
 
 pub returns : goal.returns
