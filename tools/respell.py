@@ -28,6 +28,8 @@ GIVEN = {
     "oneRound": "one_round",
     "fourAt": "four_at",
     "lF": "length_F",
+    "take-submit": "take_submit",
+    "take-commit": "take_commit",
 }
 
 # names of the library of which a lemma may be one side
@@ -106,8 +108,9 @@ def spellings():
         elif "definition" in kinds:
             new[name] = snake(name)
         else:
-            both = sides(name.split("-"), known)
-            new[name] = "-".join(both) if both and len(both) > 1 else snake(name)
+            both = sides(name.split("-"), known) or []
+            calls = [side for side in both if side in WORDS or "_" in side]
+            new[name] = "-".join(both) if len(both) > 1 and calls else snake(name)
     return {old: spelled for old, spelled in new.items() if spelled != old}
 
 

@@ -39,8 +39,8 @@ module _ (size : ℕ) (pos : 0 < size) where
   left-length a = let d = div-add-mod' (length a) size in length-drop (length a / size * size) a ∙ omega arith
 
   -- nothing is left of a block
-  left-first : (b x : List ℕ) → length b ≡ size → left size (b ++ x) ≡ left size x
-  left-first b x l =
+  left_first : (b x : List ℕ) → length b ≡ size → left size (b ++ x) ≡ left size x
+  left_first b x l =
       let n : length b / size * size ≡ size = ap (λ z. z / size * size) l ∙ ap (λ z. z * size) (div_self pos) ∙ one-mul size in
       left_join size pos b x ∙ ap (λ z. left size (z ++ x)) (drop_all (length b / size * size) b (omega arith))
 
@@ -110,9 +110,9 @@ module _ {S : Type 0} (step : S → List ℕ → S) (size : ℕ) where
         ∙ ap (λ z. whole step size z G) f
 
     -- a message that begins with a block
-    pub whole-first : (s : S) (b x : List ℕ) → length b ≡ size → whole step size s (b ++ x) ≡ whole step size (step s b) x
+    pub whole_first : (s : S) (b x : List ℕ) → length b ≡ size → whole step size s (b ++ x) ≡ whole step size (step s b) x
     unfolding absorbed
-    whole-first s b x l =
+    whole_first s b x l =
         let n : length (b ++ x) / size ≡ 1 + length x / size =
         ap (λ z. z / size) (length-append b x ∙ ap (λ z. z + length x) l) ∙ add-div_left (length x) pos ∙ add_comm (length x / size) 1 in
         let z : take size (drop (size * 0) b) ≡ b = ap (λ k. take size (drop k b)) (mul-zero size) ∙ take_all size b (omega arith) in
@@ -134,10 +134,10 @@ module _ {S : Type 0} (step : S → List ℕ → S) (size : ℕ) where
       used_less = let l = mod-lt (length bs) pos in omega (arith, h.count)
 
       -- a piece that does not fill its buffer
-      pub holds-part : (x buffer' : List ℕ) (used' : ℕ) → length x < size - used
+      pub holds_part : (x buffer' : List ℕ) (used' : ℕ) → length x < size - used
           → buffer' ≡ take used buffer ++ (x ++ drop (used + length x) buffer) → used' ≡ used + length x
           → Holds step size start state buffer' used' (bs ++ x)
-      holds-part x buffer' used' small b u =
+      holds_part x buffer' used' small b u =
           let y : List ℕ = left size bs ++ x in
           let ly : length y ≡ used' = length-append (left size bs) x ∙ ap (λ z. z + length x) (sym used_length) ∙ sym u in
           let lt : length y < size = omega arith in
@@ -169,14 +169,14 @@ module _ {S : Type 0} (step : S → List ℕ → S) (size : ℕ) where
           b₁ ∙ ap (λ z. take used buffer ++ (front ++ z)) (drop_all (used + length front) buffer (omega (arith, h.wide)))
           ∙ ap (λ z. take used buffer ++ z) (append-nil front) ∙ ap (λ z. z ++ front) h.front in
           let ys : left size bs ++ x ≡ y ++ back = ap (λ z. left size bs ++ z) (sym xs) ∙ sym (append_assoc (left size bs) front back) in
-          let ll : left size (bs ++ x) ≡ rest = left_join size pos bs x ∙ ap (left size) ys ∙ left-first size pos y back ly ∙ sym r in
+          let ll : left size (bs ++ x) ≡ rest = left_join size pos bs x ∙ ap (left size) ys ∙ left_first size pos y back ly ∙ sym r in
           let lr : length rest ≡ used' = ap length r ∙ left-length size pos back ∙ sym u in
           let lt = mod-lt (length back) pos in
           let lb : length buffer₁ ≡ size = ap length b₁_is ∙ ly in
           record {
             blocks =
                 e₂ ∙ ap (λ z. whole step size z back) (e₁ ∙ ap (step state) b₁_is ∙ ap (λ z. step z y) h.blocks)
-                ∙ sym (whole-first (whole step size start bs) y back ly) ∙ ap (whole step size (whole step size start bs)) (sym ys) ∙ sym (whole_join start bs x);
+                ∙ sym (whole_first (whole step size start bs) y back ly) ∙ ap (whole step size (whole step size start bs)) (sym ys) ∙ sym (whole_join start bs x);
             count = sym lr ∙ ap length (sym ll) ∙ left-length size pos (bs ++ x);
             front = ap (take used') b₂ ∙ take_at rest (drop (length rest) buffer₁) used' lr ∙ sym ll;
             wide = ap length b₂ ∙ length-append rest (drop (length rest) buffer₁) ∙ ap (λ z. length rest + z) (length-drop (length rest) buffer₁) ∙ omega arith;

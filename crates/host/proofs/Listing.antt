@@ -68,9 +68,9 @@ released es part back count start s le moved rest g =
     rw (take_at part back (count - start) l, is) (sym (drop-map (entered g) start (take count es)) ∙ (rw z at (rest g)))
 
 -- an entry whose signature stands at the front of the room for one
-pub entry-signed : (s : ℕ) (c : Code) (r g : ℕ) (part back signature : List ℕ) → part ≡ signature → length signature ≡ g
+pub entry_signed : (s : ℕ) (c : Code) (r g : ℕ) (part back signature : List ℕ) → part ≡ signature → length signature ≡ g
     → entered g (record { site = s; code = c; register = r; signature = part ++ back }) ≡ record { site = s; code = c; register = r; submit_signature = signature }
-entry-signed s c r g part back signature e l = rw (take_at part back g (ap length e ∙ l), e)
+entry_signed s c r g part back signature e l = rw (take_at part back g (ap length e ∙ l), e)
 
 -- one entry more, behind the first `count`
 pub pushed : (g count committer : ℕ) (list : List ListEntry) (e : ListEntry) → count < length list

@@ -50,11 +50,11 @@ writes_reply n g count committer list w proofs c found long was is r few eight s
     (rw (sized, min-eq_left few, z, take_all 8 (take count list) (omega arith)) at h)
 
 -- what a slot says that was copied to the front of a buffer
-pub version-said : (n g end : ℕ) (room bs : List ℕ) (w : StoredVersion) → w ≡ version_in n g (take (end - 0) room) → take end room ≡ bs → w ≡ version_in n g bs
-version-said n g end room bs w e f = let z : end - 0 ≡ end = omega arith in rw (z, f) at e
+pub version_said : (n g end : ℕ) (room bs : List ℕ) (w : StoredVersion) → w ≡ version_in n g (take (end - 0) room) → take end room ≡ bs → w ≡ version_in n g bs
+version_said n g end room bs w e f = let z : end - 0 ≡ end = omega arith in rw (z, f) at e
 
-pub value-said : (g end : ℕ) (room bs : List ℕ) (v : StoredValue) → v ≡ value_in g (take (end - 0) room) → take end room ≡ bs → v ≡ value_in g bs
-value-said g end room bs v e f = let z : end - 0 ≡ end = omega arith in rw (z, f) at e
+pub value_said : (g end : ℕ) (room bs : List ℕ) (v : StoredValue) → v ≡ value_in g (take (end - 0) room) → take end room ≡ bs → v ≡ value_in g bs
+value_said g end room bs v e f = let z : end - 0 ≡ end = omega arith in rw (z, f) at e
 
 module _ (n g : ℕ) (h : HostState) (m : StoreMeaning) (s i : ℕ) (v : StoredValue) (was is : List ℕ) (r : Result ℕ Refusal) where
   -- what was found in the slots of the register i

@@ -34,12 +34,12 @@ module _ (p : Setup) (h : HostState) (m : StoreMeaning) (bs was : List ℕ) (a :
   pub worn : length h.list < p.size → m.left ≡ 0 → SubmitTaken p h h m m bs was was (Err (Store NoRewriteLeft))
   worn free none = ((a, reads, next, free, none, refl), refl, refl, refl)
 
-  found-same : (c : Code) → found_by p.size p.signature m c a.site a.register (value_then p.signature m a) ≡ found_at p m a c
-  found-same Read = refl
-  found-same Write = refl
+  found_same : (c : Code) → found_by p.size p.signature m c a.site a.register (value_then p.signature m a) ≡ found_at p m a c
+  found_same Read = refl
+  found_same Write = refl
 
-  reply-same : reply_then p.size p.signature h m a ≡ replied p h m a
-  reply-same = rw (found-same a.code)
+  reply_same : reply_then p.size p.signature h m a ≡ replied p h m a
+  reply_same = rw (found_same a.code)
 
   pub taken : (h' : HostState) (m' : StoreMeaning) (is : List ℕ) (r : Result ℕ Fault) → length h.list < p.size → 0 < m.left
       → Enters p.size p.signature h h' m m' a was is r → SubmitTaken p h h' m m' bs was is r
@@ -51,7 +51,7 @@ module _ (p : Setup) (h : HostState) (m : StoreMeaning) (bs was : List ℕ) (a :
       free = free;
       left = left;
       entered = e.slot;
-      answer = reply-same;
+      answer = reply_same;
       room = e.room;
       after = e.after;
       out = e.out;
@@ -59,5 +59,5 @@ module _ (p : Setup) (h : HostState) (m : StoreMeaning) (bs was : List ℕ) (a :
     e.sized,
   )
   taken h' m' is (Err f) free left e =
-      let short = subst (λ (x : Response). length was < length ((reply p.size p.signature).put x)) reply-same e.1 in
+      let short = subst (λ (x : Response). length was < length ((reply p.size p.signature).put x)) reply_same e.1 in
       rw e.0 ((a, reads, next, free, left, short), e.2, e.3, e.4)

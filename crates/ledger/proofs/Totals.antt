@@ -67,5 +67,5 @@ module _ (es : List Signing) (few : (s : ℕ) → count s es ≤ most) where
       (cases_eq s (suc n))
 
 -- where a site can still sign, there is a place for one more entry
-pub room-left : (xs : List Entry) (s : ℕ) → ((k : ℕ) → count k (map held xs) ≤ most) → 1 ≤ s → s ≤ max_sites → count s (map held xs) < most → length xs < max_sites * most
-room-left xs s few low high less = rw (← total_all xs) (total_lt (map held xs) few max_sites s low high less)
+pub room_left : (xs : List Entry) (s : ℕ) → ((k : ℕ) → count k (map held xs) ≤ most) → 1 ≤ s → s ≤ max_sites → count s (map held xs) < most → length xs < max_sites * most
+room_left xs s few low high less = rw (← total_all xs) (total_lt (map held xs) few max_sites s low high less)

@@ -26,9 +26,9 @@ length-serial : (n : ℕ) → length (serial n) ≡ 8
 unfolding serial
 length-serial n = length-big_endian 8 n
 
-number-serial : (n : ℕ) → n < 256 ^ 8 → number (serial n) ≡ n
+number_serial : (n : ℕ) → n < 256 ^ 8 → number (serial n) ≡ n
 unfolding serial
-number-serial n fits = number-big_endian 8 n fits
+number_serial n fits = number-big_endian 8 n fits
 
 module _ (es : List Signing) (s : ℕ) (t : List ℕ) where
   count_same : count s (es ++ signing s t ∷ []) ≡ count s es + 1
@@ -72,7 +72,7 @@ module _ (es : List Signing) (s : ℕ) (t : List ℕ) where
       record {
         fits = record { ranged = known; short = short; sized = length-serial (length es + 1) };
         some = omega arith;
-        holds = named (next_serial es) (length-serial (length es + 1)) (number-serial (length es + 1) fits);
+        holds = named (next_serial es) (length-serial (length es + 1)) (number_serial (length es + 1) fits);
         stays = λ k u g h.
             let p = names_parts es k u g h in
             and_from _ _ p.0 (and_from _ _ p.1 (kept (holds k u) (number g - 1) p.2));

@@ -43,8 +43,8 @@ module _ (xs : List Entry) (s : ℕ) (t g : List ℕ) (place : ℕ) (long : leng
       let at : place + 1 - 1 ≡ place = omega arith in
       rw (eq-eqb (length g) 8 long, is, some, at)
 
-  pub named-entry : (e : Entry) → place < length xs → e ≡ slice_index_or xs place e → names (map held xs) s t g ≡ holds s t (held e)
-  named-entry e below here =
+  pub named_entry : (e : Entry) → place < length xs → e ≡ slice_index_or xs place e → names (map held xs) s t g ≡ holds s t (held e)
+  named_entry e below here =
       named ∙ get_or-map (holds s t) (map held xs) place (held e) false (rw length-map below)
       ∙ ap (holds s t) (get_or-map held xs place e (held e) below ∙ ap held (sym here))
 

@@ -35,8 +35,8 @@ module _ (bs rest behind : List ℕ) (at size : ℕ) (r : rest ≡ drop at bs) (
   at_two : behind ≡ drop (at + 2) bs
   at_two = ends 2 _ bs rest at r g
 
-  pub value-absent : size ≡ 0 → value.get (drop at bs) ≡ good None (drop (at + 2) bs)
-  value-absent z =
+  pub value_absent : size ≡ 0 → value.get (drop at bs) ≡ good None (drop (at + 2) bs)
+  value_absent z =
       let g₀ : (numeral 2).get (drop at bs) ≡ good 0 (drop (at + 2) bs) = ap (numeral 2).get (sym r) ∙ g ∙ rw (z, at_two) in
       let c : (span 0).get (drop (at + 2) bs) ≡ good [] (drop (at + 2) bs) = cut_good 0 [] (drop (at + 2) bs) (omega arith) in
       rw (g₀, c)
@@ -55,9 +55,9 @@ module _ (bs rest behind : List ℕ) (at size : ℕ) (r : rest ≡ drop at bs) (
       rw (g₁, l, o, c)
 
 -- a signature behind a value
-pub value-signed : (size : ℕ) (bs found behind : List ℕ) (o : Option Place) (at end : ℕ) → ValueBefore 0 bs o at → end ≡ at + size → (span size).get (drop at bs) ≡ good found behind → ValueBefore size bs o end
-value-signed size bs found behind None at end p e g = tt
-value-signed size bs found behind (Some place) at end p e g =
+pub value_signed : (size : ℕ) (bs found behind : List ℕ) (o : Option Place) (at end : ℕ) → ValueBefore 0 bs o at → end ≡ at + size → (span size).get (drop at bs) ≡ good found behind → ValueBefore size bs o end
+value_signed size bs found behind None at end p e g = tt
+value_signed size bs found behind (Some place) at end p e g =
     let w = p.0 in
     let l = p.1 in
     let f = fits size _ bs (drop at bs) at refl g in

@@ -111,8 +111,8 @@ proofs_cut g bs n size l e =
     (cases_lt (length bs) (g * n)))
 
 -- a part that stands at the front of a buffer
-pub cut-part : (end : ℕ) (room bs : List ℕ) → take end room ≡ bs → take (end - 0) room ≡ bs
-cut-part end room bs e = let z : end - 0 ≡ end = omega arith in rw z e
+pub cut_part : (end : ℕ) (room bs : List ℕ) → take end room ≡ bs → take (end - 0) room ≡ bs
+cut_part end room bs e = let z : end - 0 ≡ end = omega arith in rw z e
 
 -- what was found
 pub found_put : (n g : ℕ) (f : FoundParts) (version stamp size v : List ℕ) → version ≡ bytes_of f.version.now → stamp ≡ big_endian 4 f.timestamp → size ++ v ≡ value.put (option_map (λ x. x.now) f.value)

@@ -34,13 +34,13 @@ both : (s t : Bool) → (s && t) ≡ true → (s ≡ true) × (t ≡ true)
 both true t h = (refl, h)
 both false t h = let z : ◌≡◌ {A = ℕ} 0 1 = cc in absurd (omega arith)
 
-same-itself : (xs : List ℕ) → same xs xs ≡ true
-same-itself [] = refl
-same-itself (x ∷ xs) = let e : eqb x x ≡ true = grind arith in rw (e, same-itself xs)
+same_itself : (xs : List ℕ) → same xs xs ≡ true
+same_itself [] = refl
+same_itself (x ∷ xs) = let e : eqb x x ≡ true = grind arith in rw (e, same_itself xs)
 
 not_same : (t u : List ℕ) → not (same t u) ≡ true → t ≡ u → ⊥
 not_same t u h e =
-    let s : same t u ≡ true = ap (same t) (sym e) ∙ same-itself t in
+    let s : same t u ≡ true = ap (same t) (sym e) ∙ same_itself t in
     let z : ◌≡◌ {A = ℕ} 0 1 = cc in
     omega arith
 
@@ -81,19 +81,19 @@ code_same Read Write e = absurd (omega arith)
 code_same Write Read e = absurd (omega arith)
 code_same Write Write e = refl
 
-digest-same : (d d' : Option (List ℕ)) → WideDigest d → WideDigest d' → unwrap_or d [] ≡ unwrap_or d' [] → d ≡ d'
-digest-same None None w w' e = refl
-digest-same None (Some x) w w' e = let l = ap length e in absurd (omega arith)
-digest-same (Some x) None w w' e = let l = ap length e in absurd (omega arith)
-digest-same (Some x) (Some y) w w' e = ap Some e
+digest_same : (d d' : Option (List ℕ)) → WideDigest d → WideDigest d' → unwrap_or d [] ≡ unwrap_or d' [] → d ≡ d'
+digest_same None None w w' e = refl
+digest_same None (Some x) w w' e = let l = ap length e in absurd (omega arith)
+digest_same (Some x) None w w' e = let l = ap length e in absurd (omega arith)
+digest_same (Some x) (Some y) w w' e = ap Some e
 
 put_same : {A : Type 0} {f : Field A} (a b : A) → Lawful f → f.Good a → f.Good b → f.put a ≡ f.put b → a ≡ b
 put_same {A} {f} a b F g h e =
     let p : good a [] ≡ good b [] = sym (F.there a [] g) ∙ ap (λ (l : List ℕ). f.get (l ++ [])) e ∙ F.there b [] h in
     cc
 
-version-same : (u v : Version) → bytes_of u ≡ bytes_of v → slots u ≡ slots v
-version-same u v e =
+version_same : (u v : Version) → bytes_of u ≡ bytes_of v → slots u ≡ slots v
+version_same u v e =
     let k = version-length u in
     let m = version-length v in
     let l = ap length e in
@@ -115,7 +115,7 @@ strings_tell_apart = record {
   datas = λ t t' d d' h h' w w' e.
       let p = (split (tag 1) (tag 1) (big_endian 4 t ++ unwrap_or d []) (big_endian 4 t' ++ unwrap_or d' []) refl e).1 in
       let q = split (big_endian 4 t) (big_endian 4 t') (unwrap_or d []) (unwrap_or d' []) refl p in
-      (stamp_same t t' h h' q.0, digest-same d d' w w' q.1);
-  commits = λ u v e. version-same u v (split (tag 2) (tag 2) (bytes_of u) (bytes_of v) refl e).1;
+      (stamp_same t t' h h' q.0, digest_same d d' w w' q.1);
+  commits = λ u v e. version_same u v (split (tag 2) (tag 2) (bytes_of u) (bytes_of v) refl e).1;
   proofs = λ d d' e. (split (tag 3) (tag 3) d d' refl e).1;
 }

@@ -15,7 +15,7 @@ use Rattle.rules.specs.declared.phase.Phase.{Phase}
 use Rattle.rules.specs.declared.phase.Phase.TheVariants.{Idle, Waiting}
 use Rattle.rules.specs.declared.refusal.Refusal.{Refusal}
 use Rattle.rules.specs.declared.refusal.Refusal.TheVariants.{OutOfRange, OutOfService, OutOfTurn, ValueTooLong, TimestampLimit, TooFewSignatures, BadField as BadAt, BufferTooShort}
-use Rattle.rules.specs.Begin.{Ended, Waits, write-of, Begins}
+use Rattle.rules.specs.Begin.{Ended, Waits, write_of, Begins}
 use Rattle.rules.specs.Finish.{Operation, Awaits, read_reply, Outcome, finished, refused, stopped, Finishes}
 use Rattle.rules.specs.Group.{SiteState, HostState}
 use Rattle.rules.specs.Taking.{TakesCommit}
@@ -35,7 +35,7 @@ waits_on p c r e h = subst Ended e h
 
 longest :
     (H : List ℕ → List ℕ) (m m' : SchemeMeaning) (s s' : SiteState) (v was is : List ℕ) (answer : Result Submission Refusal) → length v ≡ 512 → Ready m s
-    → length was ≡ 586 → Begins (pair_of H) m m' s s' (write-of v) was is answer → (a : Submission) × (answer ≡ Ok a)
+    → length was ≡ 586 → Begins (pair_of H) m m' s s' (write_of v) was is answer → (a : Submission) × (answer ≡ Ok a)
 longest H m m' s s' v was is (Ok a) l ready room b = (a, refl)
 longest H m m' s s' v was is (Err OutOfRange) l ready room b = absurd (b.0 tt)
 longest H m m' s s' v was is (Err OutOfService) l ready room b = absurd (not_ended s.phase ready.idle b.0.1)
@@ -48,7 +48,7 @@ longest H m m' s s' v was is (Err BufferTooShort) l ready room b = absurd (omega
 
 longer :
     (H : List ℕ → List ℕ) (m m' : SchemeMeaning) (s s' : SiteState) (v was is : List ℕ) (answer : Result Submission Refusal) → length v ≡ 513 → Ready m s
-    → Begins (pair_of H) m m' s s' (write-of v) was is answer → answer ≡ Err ValueTooLong
+    → Begins (pair_of H) m m' s s' (write_of v) was is answer → answer ≡ Err ValueTooLong
 longer H m m' s s' v was is (Ok a) l ready b = absurd (omega (arith, b.short, l))
 longer H m m' s s' v was is (Err OutOfRange) l ready b = absurd (b.0 tt)
 longer H m m' s s' v was is (Err OutOfService) l ready b = absurd (not_ended s.phase ready.idle b.0.1)

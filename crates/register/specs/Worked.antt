@@ -14,7 +14,7 @@ use Rattle.rules.specs.declared.fault.Fault.TheVariants.{Message}
 use Rattle.rules.specs.declared.phase.Phase.TheVariants.{Idle}
 use Rattle.rules.specs.declared.refusal.Refusal.{Refusal}
 use Rattle.rules.specs.declared.refusal.Refusal.TheVariants.{ValueTooLong, BufferTooShort}
-use Rattle.rules.specs.Begin.{write-of, Begins}
+use Rattle.rules.specs.Begin.{write_of, Begins}
 use Rattle.rules.specs.Examples.{Overtaken}
 use Rattle.rules.specs.Finish.{Operation, Awaits, read_reply, Outcome, refused, Finishes}
 use Rattle.rules.specs.Group.{Setup, SiteState, HostState, own, max_timestamp}
@@ -43,10 +43,10 @@ pub record Worked : Type 0 where
   -- a value of 512 bytes begins, and one of 513 is refused by 4
   pub longest :
       (H : List ℕ → List ℕ) (m m' : SchemeMeaning) (s s' : SiteState) (v was is : List ℕ) (answer : Result Submission Refusal) → length v ≡ 512 → Ready m s
-      → length was ≡ 586 → Begins (pair_of H) m m' s s' (write-of v) was is answer → (a : Submission) × (answer ≡ Ok a)
+      → length was ≡ 586 → Begins (pair_of H) m m' s s' (write_of v) was is answer → (a : Submission) × (answer ≡ Ok a)
   pub longer :
       (H : List ℕ → List ℕ) (m m' : SchemeMeaning) (s s' : SiteState) (v was is : List ℕ) (answer : Result Submission Refusal) → length v ≡ 513 → Ready m s
-      → Begins (pair_of H) m m' s s' (write-of v) was is answer → answer ≡ Err ValueTooLong
+      → Begins (pair_of H) m m' s s' (write_of v) was is answer → answer ≡ Err ValueTooLong
   -- at two sites and signatures of 32 bytes a buffer of 138 bytes serves for a commit, and one of 137 is refused by 11
   pub serves :
       (H : List ℕ → List ℕ) (m m' : SchemeMeaning) (s s' : SiteState) (t : Operation) (bs was is : List ℕ) → length was ≡ 138

@@ -4,8 +4,8 @@ use Rattle.std.proofs.lemmas.Bool.{cases_eq}
 use Rattle.version.specs.Order.{Slot, slot_with, unseen, AtOrBelow, SlotAtOrBelow}
 use Rattle.rules.specs.Group.{slot, with_slot, zeros, Member}
 use Rattle.rules.specs.Running.{Running, link, rise}
-use Rattle.rules.proofs.Lists.{Ends, times, cut, cut_here, times_here, times_ends, cut-same, side}
-use Rattle.rules.proofs.Slots.{slot-set-same, slot_set_other, slot-zeros, length-with_slot, at_or_below_from, same-slots, length-zeros}
+use Rattle.rules.proofs.Lists.{Ends, times, cut, cut_here, times_here, times_ends, cut_same, side}
+use Rattle.rules.proofs.Slots.{slot-set-same, slot_set_other, slot_zeros, length-with_slot, at_or_below_from, same_slots, length-zeros}
 
 module _ (H : List ℕ → List ℕ) {A : Type 0} (of : A → ℕ) where
   abbrev pub D : List A → Option (List ℕ)
@@ -24,7 +24,7 @@ module _ (H : List ℕ → List ℕ) {A : Type 0} (of : A → ℕ) where
 
   pub fits_zeros : (n : ℕ) → Fits (zeros n) []
   unfolding times cut
-  fits_zeros n k = (ap (λ (z : Slot). z.timestamp) (slot-zeros n k), ap (λ (z : Slot). z.digest) (slot-zeros n k))
+  fits_zeros n k = (ap (λ (z : Slot). z.timestamp) (slot_zeros n k), ap (λ (z : Slot). z.digest) (slot_zeros n k))
 
   pub tracks_rise : (n : ℕ) (x : A) (h : List A) (w : Running) → Member n (of x) → Tracks n w h → Tracks n (rise H w (of x)) (x ∷ h)
   unfolding times cut
@@ -68,16 +68,16 @@ module _ (H : List ℕ → List ℕ) {A : Type 0} (of : A → ℕ) where
           let less : times of k h ≤ times of k h' = times_ends of k h h' p in
           record {
             stamp = omega (arith, less, (f k).0, (g k).0);
-            told = λ e. (f k).1 ∙ ap D (sym (cut-same of k h h' p (sym (f k).0 ∙ e ∙ (g k).0))) ∙ sym (g k).1;
+            told = λ e. (f k).1 ∙ ap D (sym (cut_same of k h h' p (sym (f k).0 ∙ e ∙ (g k).0))) ∙ sym (g k).1;
           }
 
   -- only the zero version fits the empty history
   pub fits_none : (n : ℕ) (v : List Slot) → length v ≡ n → Fits v [] → v ≡ zeros n
   unfolding times cut
-  fits_none n v l f = same-slots v (zeros n) (l ∙ sym (length-zeros n)) at
+  fits_none n v l f = same_slots v (zeros n) (l ∙ sym (length-zeros n)) at
     where
       at : (k : ℕ) → slot v k ≡ slot (zeros n) k
-      at k = let none : slot v k ≡ unseen = λ i. slot_with ((f k).0 i) ((f k).1 i) in none ∙ sym (slot-zeros n k)
+      at k = let none : slot v k ≡ unseen = λ i. slot_with ((f k).0 i) ((f k).1 i) in none ∙ sym (slot_zeros n k)
 
   -- versions that fit two beginnings of one history are comparable
   pub fits_side :

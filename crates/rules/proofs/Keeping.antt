@@ -5,7 +5,7 @@ use Rattle.signature.specs.Meaning.{SchemeMeaning}
 use Rattle.rules.specs.declared.refusal.Refusal.TheVariants.{OutOfRange, OutOfService, OutOfTurn, ValueTooLong, TimestampLimit, TooFewSignatures, BadField, BufferTooShort}
 use Rattle.rules.specs.Group.{Setup, SiteState, GroupState, Group, Started, SoundParts}
 use Rattle.rules.specs.Finish.{finished, refused, stopped, Abandons, Operation}
-use Rattle.rules.specs.Runs.{Call, begin, finish, abandon, take-submit, take-commit, Step, OnlySite, Event, now, Run}
+use Rattle.rules.specs.Runs.{Call, begin, finish, abandon, take_submit, take_commit, Step, OnlySite, Event, now, Run}
 
 -- what was valid stays valid
 abbrev pub Grows : SchemeMeaning → SchemeMeaning → Type 0
@@ -21,51 +21,51 @@ step_grows p x x' (finish i t bs was is (finished d)) s = λ k u g v. s.3.proves
 step_grows p x x' (finish i t bs was is (refused e)) s = same_grows x.scheme x'.scheme s.3.1
 step_grows p x x' (finish i t bs was is (stopped k)) s = same_grows x.scheme x'.scheme s.3.1
 step_grows p x x' (abandon i t answer) s = same_grows x.scheme x'.scheme s.2
-step_grows p x x' (take-submit bs was is answer) s = same_grows x.scheme x'.scheme s.0.scheme
-step_grows p x x' (take-commit bs answer) s = same_grows x.scheme x'.scheme s.0.scheme
+step_grows p x x' (take_submit bs was is answer) s = same_grows x.scheme x'.scheme s.0.scheme
+step_grows p x x' (take_commit bs answer) s = same_grows x.scheme x'.scheme s.0.scheme
 
 -- a site keeps its number
 module _ (x x' : GroupState) where
   Named : Type 0
   Named = (j : ℕ) → (x'.sites j).number ≡ (x.sites j).number
 
-  site-named : (i : ℕ) → OnlySite x x' i → (x'.sites i).number ≡ (x.sites i).number → Named
+  site_named : (i : ℕ) → OnlySite x x' i → (x'.sites i).number ≡ (x.sites i).number → Named
   unfolding Named
-  site-named i o e j = go (cases_eq j i)
+  site_named i o e j = go (cases_eq j i)
     where
       go : (j ≡ i) ⊎ (j ≡ i → ⊥) → (x'.sites j).number ≡ (x.sites j).number
       go (inl f) = subst (λ (z : ℕ). (x'.sites z).number ≡ (x.sites z).number) (sym f) e
       go (inr n) = ap (λ (s : SiteState). s.number) (o.others j n)
 
-  same-named : (i : ℕ) → OnlySite x x' i → x'.sites i ≡ x.sites i → Named
-  same-named i o e = site-named i o (ap (λ (s : SiteState). s.number) e)
+  same_named : (i : ℕ) → OnlySite x x' i → x'.sites i ≡ x.sites i → Named
+  same_named i o e = site_named i o (ap (λ (s : SiteState). s.number) e)
 
   abandon_named : (i : ℕ) (t : Operation) → OnlySite x x' i → (answer : _) → Abandons (x.sites i) (x'.sites i) t answer → Named
-  abandon_named i t o (Ok _) s = site-named i o (ap (λ (s : SiteState). s.number) s.1)
+  abandon_named i t o (Ok _) s = site_named i o (ap (λ (s : SiteState). s.number) s.1)
   abandon_named i t o (Err OutOfRange) s = absurd s
-  abandon_named i t o (Err OutOfService) s = same-named i o s.1
-  abandon_named i t o (Err OutOfTurn) s = same-named i o s.2
+  abandon_named i t o (Err OutOfService) s = same_named i o s.1
+  abandon_named i t o (Err OutOfTurn) s = same_named i o s.2
   abandon_named i t o (Err ValueTooLong) s = absurd s
   abandon_named i t o (Err TimestampLimit) s = absurd s
   abandon_named i t o (Err TooFewSignatures) s = absurd s
   abandon_named i t o (Err (BadField offset)) s = absurd s
   abandon_named i t o (Err BufferTooShort) s = absurd s
 
-  step-named : (p : Setup) (c : Call) → Step p x c x' → Named
+  step_named : (p : Setup) (c : Call) → Step p x c x' → Named
   unfolding Named
-  step-named p (begin i q was is (Ok a)) s = site-named i s.1 (ap (λ (z : SiteState). z.number) s.2.after)
-  step-named p (begin i q was is (Err e)) s = same-named i s.1 s.2.2
-  step-named p (finish i t bs was is (finished d)) s = site-named i s.1 (ap (λ (z : SiteState). z.number) s.3.after)
-  step-named p (finish i t bs was is (refused e)) s = same-named i s.1 s.3.2
-  step-named p (finish i t bs was is (stopped k)) s = site-named i s.1 (ap (λ (z : SiteState). z.number) s.3.0.after)
-  step-named p (abandon i t answer) s = abandon_named i t s.1 answer s.3
-  step-named p (take-submit bs was is answer) s = λ j. ap (λ (f : ℕ → SiteState). (f j).number) s.0.sites
-  step-named p (take-commit bs answer) s = λ j. ap (λ (f : ℕ → SiteState). (f j).number) s.0.sites
+  step_named p (begin i q was is (Ok a)) s = site_named i s.1 (ap (λ (z : SiteState). z.number) s.2.after)
+  step_named p (begin i q was is (Err e)) s = same_named i s.1 s.2.2
+  step_named p (finish i t bs was is (finished d)) s = site_named i s.1 (ap (λ (z : SiteState). z.number) s.3.after)
+  step_named p (finish i t bs was is (refused e)) s = same_named i s.1 s.3.2
+  step_named p (finish i t bs was is (stopped k)) s = site_named i s.1 (ap (λ (z : SiteState). z.number) s.3.0.after)
+  step_named p (abandon i t answer) s = abandon_named i t s.1 answer s.3
+  step_named p (take_submit bs was is answer) s = λ j. ap (λ (f : ℕ → SiteState). (f j).number) s.0.sites
+  step_named p (take_commit bs answer) s = λ j. ap (λ (f : ℕ → SiteState). (f j).number) s.0.sites
 
 pub number_kept : (G : Group) → Started G → (r : List Event) → Run G r → (i : ℕ) → ((now G r).sites i).number ≡ i
 unfolding Named
 number_kept G started [] run i = ap (λ (s : SiteState). s.number) (started.sites i)
-number_kept G started (e ∷ r) run i = step-named (now G r) e.after G.setup e.call run.0 i ∙ number_kept G started r run.2 i
+number_kept G started (e ∷ r) run i = step_named (now G r) e.after G.setup e.call run.0 i ∙ number_kept G started r run.2 i
 
 -- the scheme and the store are sound at every moment
 pub sound_kept : (G : Group) → Started G → (r : List Event) → Run G r → SoundParts G.setup (now G r)

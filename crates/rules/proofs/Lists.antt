@@ -85,13 +85,13 @@ module _ {A : Type 0} (of : A → ℕ) where
   unfolding cut
   cut_here k x h e = grind arith
 
-  pub past-cut : (k : ℕ) (h : List A) → past k h ++ cut k h ≡ h
+  pub past_cut : (k : ℕ) (h : List A) → past k h ++ cut k h ≡ h
   unfolding past cut
-  past-cut k [] = refl
-  past-cut k (x ∷ h) = let ih = past-cut k h in grind arith
+  past_cut k [] = refl
+  past_cut k (x ∷ h) = let ih = past_cut k h in grind arith
 
   pub cut_ends : (k : ℕ) (h : List A) → Ends (cut k h) h
-  cut_ends k h = (past k h, past-cut k h)
+  cut_ends k h = (past k h, past_cut k h)
 
   pub times_here : (x : A) (h : List A) → times (of x) (x ∷ h) ≡ suc (times (of x) h)
   unfolding times
@@ -125,16 +125,16 @@ module _ {A : Type 0} (of : A → ℕ) where
   pub times_ends : (k : ℕ) (h h' : List A) → Ends h h' → times k h ≤ times k h'
   times_ends k h h' p = subst (λ (z : List A). times k h ≤ times k z) p.1 (times_more k p.0 h)
 
-  pub cut-same : (k : ℕ) (h h' : List A) → Ends h h' → times k h ≡ times k h' → cut k h' ≡ cut k h
-  cut-same k h h' p = subst (λ (z : List A). times k h ≡ times k z → cut k z ≡ cut k h) p.1 (cut_more k p.0 h)
+  pub cut_same : (k : ℕ) (h h' : List A) → Ends h h' → times k h ≡ times k h' → cut k h' ≡ cut k h
+  cut_same k h h' p = subst (λ (z : List A). times k h ≡ times k z → cut k z ≡ cut k h) p.1 (cut_more k p.0 h)
 
   -- two beginnings of one history with as many operations of k have the same last one
   pub one_cut : (k : ℕ) (a b c : List A) → Ends a c → Ends b c → times k a ≡ times k b → cut k a ≡ cut k b
   one_cut k a b c p q e = go (side a b c p q)
     where
       go : Ends a b ⊎ Ends b a → cut k a ≡ cut k b
-      go (inl s) = sym (cut-same k a b s e)
-      go (inr s) = cut-same k b a s (sym e)
+      go (inl s) = sym (cut_same k a b s e)
+      go (inr s) = cut_same k b a s (sym e)
 
   -- with no operation of k in the new part, k's last one is in the part before; with one, it is in the new part
   pub cut_skip : (k : ℕ) (new b : List A) → times k new ≡ 0 → cut k (new ++ b) ≡ cut k b

@@ -23,8 +23,8 @@ pub member_from : (n b : ℕ) → (leb 1 b && leb b n) ≡ true → Member n b
 member_from n b h = let both = and_parts (leb 1 b) (leb b n) h in (leb-true 1 b both.0, leb-true b n both.1)
 
 -- a slot with timestamp 0 has no digest, and one with another has 32 bytes
-pub slot-unseen : (s : Slot) → slot_field.Good s → s.timestamp ≡ 0 → s ≡ unseen
-slot-unseen s h e =
+pub slot_unseen : (s : Slot) → slot_field.Good s → s.timestamp ≡ 0 → s ≡ unseen
+slot_unseen s h e =
     let back : cond (eqb s.timestamp 0) None (Some (Rattle.version.specs.Shape.digest_bytes s.digest)) ≡ s.digest = h.0.1.1 in
     let none : None ≡ s.digest = sym (cond-true (eqb s.timestamp 0) None (Some (Rattle.version.specs.Shape.digest_bytes s.digest)) (grind arith)) ∙ back in
     λ i. slot_with (e i) (sym none i)
@@ -34,7 +34,7 @@ pub zero_slots : (v : List Slot) → GoodAll slot_field v → is_zero v ≡ true
 zero_slots [] h z = refl
 zero_slots (s ∷ v) h z =
     let both = and_parts (eqb s.timestamp 0) (is_zero v) z in
-    let first : s ≡ unseen = slot-unseen s h.0 (eqb-true s.timestamp 0 both.0) in
+    let first : s ≡ unseen = slot_unseen s h.0 (eqb-true s.timestamp 0 both.0) in
     let rest : v ≡ zeros (length v) = zero_slots v h.1 both.1 in
     λ i. first i ∷ rest i
 

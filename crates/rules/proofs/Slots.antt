@@ -6,9 +6,9 @@ use Rattle.version.specs.Order.{Slot, unseen, slot_at, AtOrBelow, SlotAtOrBelow}
 use Rattle.rules.specs.Group.{slot, with_slot, zeros, Member}
 
 -- a slot by its place
-pub slot-place : (v : List Slot) (i : ℕ) → 1 ≤ i → slot v i ≡ slot_at v (i - 1)
-slot-place v zero h = absurd (omega arith)
-slot-place v (suc k) h = let e : suc k - 1 ≡ k = omega arith in rw e
+pub slot_place : (v : List Slot) (i : ℕ) → 1 ≤ i → slot v i ≡ slot_at v (i - 1)
+slot_place v zero h = absurd (omega arith)
+slot_place v (suc k) h = let e : suc k - 1 ≡ k = omega arith in rw e
 
 pub with_slot-place : (v : List Slot) (i : ℕ) (s : Slot) → 1 ≤ i → with_slot v i s ≡ set v (i - 1) s
 with_slot-place v zero s h = absurd (omega arith)
@@ -33,28 +33,28 @@ get_D_zeros zero j = refl
 get_D_zeros (suc n) zero = refl
 get_D_zeros (suc n) (suc j) = get_D_zeros n j
 
-pub slot-zeros : (n i : ℕ) → slot (zeros n) i ≡ unseen
-slot-zeros n zero = refl
-slot-zeros n (suc j) = get_D_zeros n j
+pub slot_zeros : (n i : ℕ) → slot (zeros n) i ≡ unseen
+slot_zeros n zero = refl
+slot_zeros n (suc j) = get_D_zeros n j
 
 pub length-zeros : (n : ℕ) → length (zeros n) ≡ n
 length-zeros n = length-replicate n unseen
 
 -- past its end a version says nothing
-pub slot-past : (v : List Slot) (i : ℕ) → length v < i → slot v i ≡ unseen
-slot-past v zero h = absurd (omega arith)
-slot-past [] (suc k) h = refl
-slot-past (s ∷ v) (suc zero) h = absurd (omega arith)
-slot-past (s ∷ v) (suc (suc k)) h = slot-past v (suc k) (omega arith)
+pub slot_past : (v : List Slot) (i : ℕ) → length v < i → slot v i ≡ unseen
+slot_past v zero h = absurd (omega arith)
+slot_past [] (suc k) h = refl
+slot_past (s ∷ v) (suc zero) h = absurd (omega arith)
+slot_past (s ∷ v) (suc (suc k)) h = slot_past v (suc k) (omega arith)
 
 -- two versions of one size that say the same of each site are equal
-pub same-slots : (u v : List Slot) → length u ≡ length v → ((i : ℕ) → slot u i ≡ slot v i) → u ≡ v
-same-slots [] [] l h = refl
-same-slots [] (b ∷ v) l h = absurd (omega arith)
-same-slots (a ∷ u) [] l h = absurd (omega arith)
-same-slots (a ∷ u) (b ∷ v) l h =
+pub same_slots : (u v : List Slot) → length u ≡ length v → ((i : ℕ) → slot u i ≡ slot v i) → u ≡ v
+same_slots [] [] l h = refl
+same_slots [] (b ∷ v) l h = absurd (omega arith)
+same_slots (a ∷ u) [] l h = absurd (omega arith)
+same_slots (a ∷ u) (b ∷ v) l h =
     let first : a ≡ b = h 1 in
-    let rest : u ≡ v = same-slots u v (omega arith) below in
+    let rest : u ≡ v = same_slots u v (omega arith) below in
     cc
   where
     below : (i : ℕ) → slot u i ≡ slot v i
@@ -72,8 +72,8 @@ at_or_below_at u v le (suc k) = go (Rattle.std.proofs.lemmas.Bool.cases_lt k (le
     go : (k < length u) ⊎ (length u ≤ k) → SlotAtOrBelow (slot_at u k) (slot_at v k)
     go (inl less) = le.sites k less
     go (inr more) =
-        let a : slot u (suc k) ≡ unseen = slot-past u (suc k) (omega arith) in
-        let b : slot v (suc k) ≡ unseen = slot-past v (suc k) (omega (arith, le.sizes)) in
+        let a : slot u (suc k) ≡ unseen = slot_past u (suc k) (omega arith) in
+        let b : slot v (suc k) ≡ unseen = slot_past v (suc k) (omega (arith, le.sizes)) in
         subst (λ (z : Slot). SlotAtOrBelow z (slot_at v k)) (sym a)
         (subst (λ (z : Slot). SlotAtOrBelow unseen z) (sym b) (record { stamp = omega arith; told = λ e. refl }))
 
@@ -84,4 +84,4 @@ slot_outside v (suc k) h = go (Rattle.std.proofs.lemmas.Bool.cases_lt k (length 
   where
     go : (k < length v) ⊎ (length v ≤ k) → slot v (suc k) ≡ unseen
     go (inl less) = absurd (h (omega arith, omega arith))
-    go (inr more) = slot-past v (suc k) (omega arith)
+    go (inr more) = slot_past v (suc k) (omega arith)

@@ -15,24 +15,24 @@ use Rattle.rules.specs.Group.{Setup, SiteState, Member, own, max_timestamp, max_
 -- what is asked: to read a register, or to write a value to the site's own
 pub data Request : Type 0 where
   read_of : ℕ → Request
-  write-of : List ℕ → Request
+  write_of : List ℕ → Request
 
 abbrev pub code_of : Request → Code
 code_of (read_of r) = Read
-code_of (write-of v) = Write
+code_of (write_of v) = Write
 
 abbrev pub register_of : ℕ → Request → ℕ
 register_of i (read_of r) = r
-register_of i (write-of v) = i
+register_of i (write_of v) = i
 
 abbrev pub value_of : Request → Option (List ℕ)
 value_of (read_of r) = None
-value_of (write-of v) = Some v
+value_of (write_of v) = Some v
 
 -- the digest of the site's last value, this request's included
 abbrev pub last_with : (List ℕ → List ℕ) → Option (List ℕ) → Request → Option (List ℕ)
 last_with H last (read_of r) = last
-last_with H last (write-of v) = Some (H v)
+last_with H last (write_of v) = Some (H v)
 
 -- a stopped or retired site, and a waiting one
 abbrev pub Ended : Phase → Type 0
@@ -50,15 +50,15 @@ Waits Retired = ⊥
 -- a register of the group, and a value that is not too long
 abbrev pub Ranged : Setup → Request → Type 0
 Ranged p (read_of r) = Member p.size r
-Ranged p (write-of v) = Unit {0}
+Ranged p (write_of v) = Unit {0}
 
 abbrev pub Short : Request → Type 0
 Short (read_of r) = Unit {0}
-Short (write-of v) = length v ≤ max_value
+Short (write_of v) = length v ≤ max_value
 
 abbrev pub value_size : Request → ℕ
 value_size (read_of r) = 0
-value_size (write-of v) = length v
+value_size (write_of v) = length v
 
 -- the bytes of the submit
 abbrev pub submit_size : Setup → Request → ℕ

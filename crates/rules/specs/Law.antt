@@ -10,7 +10,7 @@ use Rattle.rules.specs.declared.phase.Phase.TheVariants.{Stopped}
 use Rattle.rules.specs.Group.{Group, Member, Started, slot}
 use Rattle.rules.specs.Finish.{Operation, Completion}
 use Rattle.rules.specs.Taking.{Exchange, value_with}
-use Rattle.rules.specs.Runs.{Call, begin, finish, abandon, take-submit, take-commit, Event, now, GroupEvent, alone, Runs}
+use Rattle.rules.specs.Runs.{Call, begin, finish, abandon, take_submit, take_commit, Event, now, GroupEvent, alone, Runs}
 use Rattle.rules.specs.Shown.{◌∈◌, Each, deed, completion_in, submissions, completions, exchanges, signed, checked, digested, value_found}
 use Rattle.rules.specs.History.{operation, operation_of, count, history, Front, last_written}
 
@@ -78,8 +78,8 @@ module _ (G : Group) where
   Delivered r (begin i q was is answer) = Unit {0}
   Delivered r (finish i t bs was is answer) = ReplyTo r t bs
   Delivered r (abandon i t answer) = Unit {0}
-  Delivered r (take-submit bs was is answer) = bs ∈ map submit_bytes (submissions r)
-  Delivered r (take-commit bs answer) = bs ∈ map commit_bytes (completions r)
+  Delivered r (take_submit bs was is answer) = bs ∈ map submit_bytes (submissions r)
+  Delivered r (take_commit bs answer) = bs ∈ map commit_bytes (completions r)
 
   abbrev pub Delivers : List Event → Type 0
   Delivers [] = Unit {0}

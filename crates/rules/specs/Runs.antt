@@ -15,8 +15,8 @@ pub data Call : Type 0 where
   begin : (site : ℕ) → Request → (was is : List ℕ) → Result Submission Refusal → Call
   finish : (site : ℕ) → Operation → (bytes was is : List ℕ) → Outcome → Call
   abandon : (site : ℕ) → Operation → Result (Unit {0}) Refusal → Call
-  take-submit : (bytes was is : List ℕ) → Result Exchange Fault → Call
-  take-commit : (bytes : List ℕ) → Result Commitment Fault → Call
+  take_submit : (bytes was is : List ℕ) → Result Exchange Fault → Call
+  take_commit : (bytes : List ℕ) → Result Commitment Fault → Call
 
 -- a call of the site i leaves the store, the host and every other site as they were
 pub record OnlySite (x x' : GroupState) (i : ℕ) : Type 0 where
@@ -37,9 +37,9 @@ Step p x (finish i t bs was is answer) x' =
     Member p.size i × OnlySite x x' i × Bytes bs × Finishes p x.scheme x'.scheme (x.sites i) (x'.sites i) t bs was is answer
 Step p x (abandon i t answer) x' =
     Member p.size i × OnlySite x x' i × (x'.scheme ≡ x.scheme) × Abandons (x.sites i) (x'.sites i) t answer
-Step p x (take-submit bs was is answer) x' =
+Step p x (take_submit bs was is answer) x' =
     OnlyHost x x' × Bytes bs × TakesSubmit p x.host x'.host x.store x'.store bs was is answer
-Step p x (take-commit bs answer) x' =
+Step p x (take_commit bs answer) x' =
     OnlyHost x x' × Bytes bs × TakesCommit p x.host x'.host x.store x'.store bs answer
 
 -- a call, and the group after it

@@ -6,12 +6,12 @@ use Rattle.message.specs.Strings.{submit_string, data_string, commit_string, pro
 use Rattle.message.specs.Submit.{Submission}
 use Rattle.version.specs.Order.{Slot}
 use Rattle.rules.specs.Group.{GroupState, Group, slot}
-use Rattle.rules.specs.Begin.{Request, read_of, write-of, last_with}
+use Rattle.rules.specs.Begin.{Request, read_of, write_of, last_with}
 use Rattle.rules.specs.Running.{Running, from_reply, rise, all_links}
 use Rattle.rules.specs.Checks.{proof_of}
 use Rattle.rules.specs.Finish.{Completion, finished, refused, stopped}
 use Rattle.rules.specs.Taking.{Exchange}
-use Rattle.rules.specs.Runs.{Call, begin, finish, abandon, take-submit, take-commit, Event, now}
+use Rattle.rules.specs.Runs.{Call, begin, finish, abandon, take_submit, take_commit, Event, now}
 
 -- x is one of a list
 infix 50 ◌∈◌
@@ -38,9 +38,9 @@ deed (finish i t bs was is (finished d)) = completed d
 deed (finish i t bs was is (refused e)) = other
 deed (finish i t bs was is (stopped s)) = other
 deed (abandon i t answer) = other
-deed (take-submit bs was is (Ok x)) = took x
-deed (take-submit bs was is (Err e)) = other
-deed (take-commit bs answer) = other
+deed (take_submit bs was is (Ok x)) = took x
+deed (take_submit bs was is (Err e)) = other
+deed (take_commit bs answer) = other
 
 -- the submits that sites wrote
 abbrev pub submission_in : Deed → List Submission
@@ -138,7 +138,7 @@ checked H d =
 -- the values of begun writes and, at accepted finishes, each string whose digest the running digest becomes and each value read
 abbrev pub written_in : Request → List (List ℕ)
 written_in (read_of r) = []
-written_in (write-of v) = v ∷ []
+written_in (write_of v) = v ∷ []
 
 abbrev pub listed : {A : Type 0} → Option A → List A
 listed None = []

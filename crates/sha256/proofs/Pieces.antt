@@ -1,7 +1,7 @@
 -- a message that comes in pieces
 use Rattle.std.proofs.Common.{◌≡◌, ℕ, ◌+◌, ◌-◌, ◌*◌, ◌%◌, ◌^◌, List, ◌++◌, length, take, sym, ap, ◌∙◌, append_assoc, arith, lit<, length-append}
 use Rattle.digest.specs.Blocks.{Holds, whole}
-use Rattle.digest.proofs.Blocks.{holds_end, whole-first}
+use Rattle.digest.proofs.Blocks.{holds_end, whole_first}
 use Rattle.sha256.specs.declared.compression.State.{State}
 use Rattle.sha256.specs.Compression.{compressed}
 use Rattle.sha256.specs.Sha256.{Initial, output, padding, sha256}
@@ -33,5 +33,5 @@ begun block rest s l e =
     let P : List ℕ = padding (length (block ++ rest)) in
     ap (λ z. output (whole compressed 64 s (rest ++ z))) p
     ∙ ap (λ z. output (whole compressed 64 z (rest ++ P))) e
-    ∙ ap output (sym (whole-first compressed 64 (lit< tt) Initial block (rest ++ P) l))
+    ∙ ap output (sym (whole_first compressed 64 (lit< tt) Initial block (rest ++ P) l))
     ∙ ap (λ z. output (whole compressed 64 Initial z)) (sym (append_assoc block rest P))

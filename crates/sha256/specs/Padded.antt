@@ -71,9 +71,9 @@ four_below x b (suc (suc (suc (suc k)))) = b.at k
 below : (x : ℕ) {l : List ℕ} → Below l → Below (bytes32 x ++ l)
 below x b = record { at = four_below x b }
 
-pub output-bytes : (s : State) (k : ℕ) → slice_index (output s) k < 256
+pub output_bytes : (s : State) (k : ℕ) → slice_index (output s) k < 256
 unfolding output
-output-bytes s =
+output_bytes s =
     let none : Below [] = record { at = λ k. lit< tt } in
     let all : Below (output s) =
     below s.a (below s.b (below s.c (below s.d (below s.e (below s.f (below s.g (below s.h none))))))) in

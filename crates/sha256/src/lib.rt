@@ -5,7 +5,7 @@ ghost use Rattle.std.specs.Prelude.{◌≡◌, ◌++◌};
 ghost use Rattle.std.proofs.Math.Path.{refl};
 ghost use Rattle.sha256.specs.Published.{Published};
 ghost use Rattle.sha256.specs.Sha256.{sha256, output};
-ghost use Rattle.sha256.specs.Padded.{output-bytes};
+ghost use Rattle.sha256.specs.Padded.{output_bytes};
 
 use digest::{Digest, LEN};
 
@@ -28,7 +28,7 @@ impl Digest for Sha256 {
 
     ghost len = { unfold sha256 output in λ bs. refl };
 
-    ghost bytes = { unfold sha256 in λ bs k. output-bytes _ k };
+    ghost bytes = { unfold sha256 in λ bs k. output_bytes _ k };
 
     fn digest(&self, bytes: &[u8]) -> [u8; LEN] {
         message::conclude(message::START, bytes, bytes.len() as u64)

@@ -32,9 +32,9 @@ tabled (suc k) =
     ∙ ap (λ z. octets z (bits (suc (suc (suc (suc (suc (8 * k + 7)))))))) n
     ∙ ap (λ z. 6 ∷ z) (ended k)
 
-padding-table : (n : ℕ) → padding n ≡ table (136 - n % 136)
+padding_table : (n : ℕ) → padding n ≡ table (136 - n % 136)
 unfolding padding
-padding-table n =
+padding_table n =
     let j : (1088 - (8 * n + 2 + 2) % 1088) % 1088 ≡ 8 * (135 - n % 136) + 4 = omega arith in
     let q : suc (135 - n % 136) ≡ 136 - n % 136 = omega arith in
     ap (λ z. octets (length (bits z) / 8) (bits z)) j ∙ tabled (135 - n % 136) ∙ ap table q
@@ -49,11 +49,11 @@ table-length (suc (suc k)) =
     ap suc l
 
 pub padding-length : (n : ℕ) → length (padding n) ≡ 136 - n % 136
-padding-length n = ap length (padding-table n) ∙ table-length (136 - n % 136)
+padding-length n = ap length (padding_table n) ∙ table-length (136 - n % 136)
 
 -- it depends on the length of the last block alone
 pub padding_mod : (m n : ℕ) → m % 136 ≡ n % 136 → padding m ≡ padding n
-padding_mod m n e = padding-table m ∙ ap (λ z. table (136 - z)) e ∙ sym (padding-table n)
+padding_mod m n e = padding_table m ∙ ap (λ z. table (136 - z)) e ∙ sym (padding_table n)
 
 -- the last bit of the padding, over the last of m + 1 bytes
 last_bit : (m : ℕ) → set (6 ∷ replicate m 0) m (bit_xor (get_or (6 ∷ replicate m 0) m 0) 128) ≡ table (suc m)
@@ -78,4 +78,4 @@ laid rest t short p =
     ap (λ y. set y 135 (bit_xor (get_or y 135 0) 128)) q₂
     ∙ ap (λ v. set (rest ++ (6 ∷ zs)) 135 (bit_xor v 128)) at
     ∙ set-append_right rest (6 ∷ zs) k 135 (bit_xor (get_or (6 ∷ zs) (135 - k) 0) 128) refl (omega arith)
-    ∙ ap (λ y. rest ++ y) (last_bit (135 - k) ∙ ap table size ∙ sym (padding-table k))
+    ∙ ap (λ y. rest ++ y) (last_bit (135 - k) ∙ ap table size ∙ sym (padding_table k))

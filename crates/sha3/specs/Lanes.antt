@@ -72,9 +72,9 @@ small_lane v =
     let m : (x : ℕ) → x % 256 < 256 = λ x. mod-lt x (lit< tt) in
     (m v, (m (v / 2 ^ 8), (m (v / 2 ^ 16), (m (v / 2 ^ 24), (m (v / 2 ^ 32), (m (v / 2 ^ 40), (m (v / 2 ^ 48), (m (v / 2 ^ 56), tt))))))))
 
-pub squeezed-bytes : (S : List ℕ) (k : ℕ) → slice_index (squeezed S) k < 256
+pub squeezed_bytes : (S : List ℕ) (k : ℕ) → slice_index (squeezed S) k < 256
 unfolding squeezed
-squeezed-bytes S =
+squeezed_bytes S =
     let b : (x : ℕ) → List ℕ = λ x. bytes_of (lane S x 0) in
     let s : (x : ℕ) → Small (b x) = λ x. small_lane (lane S x 0) in
     small_at (b 0 ++ b 1 ++ b 2 ++ b 3)

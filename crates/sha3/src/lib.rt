@@ -5,7 +5,7 @@ ghost use Rattle.std.specs.Prelude.{◌≡◌, ◌++◌};
 ghost use Rattle.std.proofs.Math.Path.{refl};
 ghost use Rattle.sha3.specs.Published.{Published};
 ghost use Rattle.sha3.specs.Sha3.{sha3_256, squeezed};
-ghost use Rattle.sha3.specs.Lanes.{squeezed-bytes};
+ghost use Rattle.sha3.specs.Lanes.{squeezed_bytes};
 
 use digest::{Digest, LEN};
 
@@ -24,7 +24,7 @@ impl Digest for Sha3_256 {
 
     ghost len = { unfold sha3_256 squeezed in λ bs. refl };
 
-    ghost bytes = { unfold sha3_256 in λ bs. squeezed-bytes _ };
+    ghost bytes = { unfold sha3_256 in λ bs. squeezed_bytes _ };
 
     fn digest(&self, bytes: &[u8]) -> [u8; LEN] {
         sponge::conclude([0; 25], bytes)

@@ -16,10 +16,10 @@ use Rattle.site.specs.Finishing.{ReadsReply, Admits}
 use Rattle.site.specs.State.{setup}
 
 -- a reply to the operation
-pub reply-read :
+pub reply_read :
     (n g : ℕ) (c : Code) (bs : List ℕ) (m : Reply) → read (reply n g) bs ≡ Ok (response g bs n m) → m.code ≡ c → size_of m ≡ n → WellRead g bs m
     → ReadsReply n g c bs (Ok m)
-reply-read n g c bs m e k size well = (λ digest. at digest, size, well)
+reply_read n g c bs m e k size well = (λ digest. at digest, size, well)
   where
     one : expecting c bs (Ok (response g bs n m)) ≡ Ok (response g bs n m)
     one = cond-true (eqb (code_number m.code) (code_number c)) (Ok (response g bs n m)) (Err 1) (eq-eqb (code_number m.code) (code_number c) (ap code_number k))

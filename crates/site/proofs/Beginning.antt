@@ -5,7 +5,7 @@ use Rattle.message.specs.declared.code.Code.{Code}
 use Rattle.message.specs.Submit.{Submission}
 use Rattle.signature.specs.Meaning.{SchemeMeaning}
 use Rattle.rules.specs.declared.phase.Phase.TheVariants.{Waiting}
-use Rattle.rules.specs.Begin.{Request, read_of, write-of, value_of, value_size, submit_size, Begun}
+use Rattle.rules.specs.Begin.{Request, read_of, write_of, value_of, value_size, submit_size, Begun}
 use Rattle.rules.specs.Finish.{Operation}
 use Rattle.rules.specs.Group.{SiteState}
 use Rattle.site.specs.State.{setup}
@@ -18,7 +18,7 @@ operation i t = record { site = i; timestamp = t }
 
 size_of : (q : Request) → value_bytes (value_of q) ≡ value_size q
 size_of (read_of r) = refl
-size_of (write-of v) = refl
+size_of (write_of v) = refl
 
 module _ (n g : ℕ) (digest : List ℕ → List ℕ) (m m' : SchemeMeaning) (s : SiteState) (q : Request) (c : Code) (r t : ℕ) (v d : Option (List ℕ)) (was is : List ℕ) (end : ℕ) where
   -- the site as the code leaves it

@@ -64,13 +64,13 @@ module _ (g : ℕ) (H : List ℕ → List ℕ) (M : SchemeMeaning) (s : SiteStat
     version_length_is = ap length version_is ∙ length-with_slot (rise_all H (from_reply a) a.entries).version i _ ∙ before-length
 
     -- the site's own digest is that of its view history
-    own-digest : (slot (slots w.version) i).digest ≡ (result H i a).digest
-    own-digest =
+    own_digest : (slot (slots w.version) i).digest ≡ (result H i a).digest
+    own_digest =
         ap (λ (z : List Slot). (slot z i).digest) version_is
         ∙ ap (λ (z : Slot). z.digest) (slot-set-same (rise_all H (from_reply a) a.entries).version i _ member.0 (omega (arith, member.1, before-length)))
 
     pub told : Told (slot (slots w.version) i).digest
-    told = subst Told (sym own-digest) tt
+    told = subst Told (sym own_digest) tt
 
     module _ (M' : SchemeMeaning) (was is : List ℕ) (end : ℕ) (e : room ≡ length was) (c : Commits g M M' i (slots w.version) was is end) where
       size : end ≡ commit_size p
@@ -103,7 +103,7 @@ module _ (g : ℕ) (H : List ℕ → List ℕ) (M : SchemeMeaning) (s : SiteStat
           version = version_is;
           between = c.between;
           commits = c.commits;
-          proves = subst (λ (z : Option (List ℕ)). Made g c.between M' i (proof_string (unwrap_or z [])) c.second) own-digest c.proves;
+          proves = subst (λ (z : Option (List ℕ)). Made g c.between M' i (proof_string (unwrap_or z [])) c.second) own_digest c.proves;
           place = placed g bs m.found ad.reads.2.ends;
           after = λ j. record { number = i; version = version_is j; last = s.last; phase = Idle };
           out = c.written.after ∙ rw size;

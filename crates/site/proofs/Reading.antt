@@ -67,8 +67,8 @@ module _ (g : ℕ) (bs : List ℕ) (m : Reply) (h : WellRead g bs m) where
         let q : x ≡ f = cc in
         subst (WellFound g bs (size_of m)) q (record { size = good.0.0.0; commit = good.0.1.0; signed = good.0.1.1.1.1; value = value_in x.value ends })
 
-    pub found-read : m.found ≡ Some f → WellFound g bs (size_of m) f
-    found-read e = found_with m.code m.found e h.good.0.1.1.1.1.1 h.ends
+    pub found_read : m.found ≡ Some f → WellFound g bs (size_of m) f
+    found_read e = found_with m.code m.found e h.good.0.1.1.1.1.1 h.ends
 
 -- as many as there are, of a whole array
 pub first_items : (n count : ℕ) (items : List Entry) → length items ≡ 8 → n ≡ min count 8 → take (n - 0) items ≡ take count items

@@ -3,7 +3,7 @@
 ghost use Rattle.std.specs.Prelude.{◌≡◌, ℕ, List, length, None};
 ghost use Rattle.std.specs.Option.{option_map};
 ghost use Rattle.message.specs.Writes.{TooLong};
-ghost use Rattle.rules.specs.Begin.{Request, read_of, write-of};
+ghost use Rattle.rules.specs.Begin.{Request, read_of, write_of};
 ghost use Rattle.version.specs.Shape.{digest_bytes};
 ghost use Rattle.version.specs.Version.{slots};
 ghost use Rattle.site.specs.Calls.{BeginsWith};
@@ -50,7 +50,7 @@ impl Site {
         value: &[u8],
         out: &mut [u8],
     ) -> Result<Begun, Refusal>
-        ensures { BeginsWith (setup (length (slots self.old.version)) S.Scheme.len D.Digest.means) (S.Scheme.means scheme.old) (S.Scheme.means scheme.new) (state self.old) (state self.new) (write-of value.now) out.old out.new result }
+        ensures { BeginsWith (setup (length (slots self.old.version)) S.Scheme.len D.Digest.means) (S.Scheme.means scheme.old) (S.Scheme.means scheme.new) (state self.old) (state self.new) (write_of value.now) out.old out.new result }
     {
         self.idle()?;
         if MAX_VALUE < value.len() {

@@ -17,8 +17,8 @@ get_D_zeros zero k = refl
 get_D_zeros (suc n) zero = refl
 get_D_zeros (suc n) (suc k) = get_D_zeros n k
 
-pub zeros-bytes : (n : ℕ) (xs : List ℕ) → xs ≡ replicate n 0 → Bytes xs
-zeros-bytes n xs e k = rw (e, get_D_zeros n k) (omega arith)
+pub zeros_bytes : (n : ℕ) (xs : List ℕ) → xs ≡ replicate n 0 → Bytes xs
+zeros_bytes n xs e k = rw (e, get_D_zeros n k) (omega arith)
 
 -- places of one length
 pub same_short : (n l : ℕ) → l ≤ max_slot → Short (replicate n l)

@@ -54,8 +54,8 @@ pub zero_length : (v : Version) (n : ℕ) → slots v ≡ replicate n unseen →
 zero_length v n e = ap length e ∙ length-replicate n unseen
 
 -- past the group's size nothing has been seen
-slots-past : (v : Version) (k : ℕ) → v.size ≤ k → slot_of v k ≡ unseen
-slots-past v k h =
+slots_past : (v : Version) (k : ℕ) → v.size ≤ k → slot_of v k ≡ unseen
+slots_past v k h =
     let t = v.bounded k h in
     let d : is_some (get_or v.digests k None) ≡ false = v.told k ∙ rw t in
     ap (λ x. slot_with x (get_or v.digests k None)) t ∙ ap (slot_with 0) (none (get_or v.digests k None) d)
@@ -71,5 +71,5 @@ one_form u v e k =
     let l = ap length e in
     ⊎_elim
     (λ (h : k < u.size). sym (slots_at u k h) ∙ ap (λ s. slot_at s k) e ∙ slots_at v k (omega arith))
-    (λ (h : u.size ≤ k). slots-past u k h ∙ sym (slots-past v k (omega arith)))
+    (λ (h : u.size ≤ k). slots_past u k h ∙ sym (slots_past v k (omega arith)))
     (cases_lt k u.size)

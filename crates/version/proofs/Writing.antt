@@ -39,12 +39,12 @@ slots_more v k start m n was mid is h p q =
     puts_more slot_field (take k (slots v)) (take (k + 1) (slots v)) (slot_of v k) (take_more (slots v) k unseen (omega arith) ∙ rw (slots_at v k h)) p q
 
 -- a version that was put in front
-pub version-written : (v : Version) (was is : List ℕ) (r : Option ℕ) → PutsOrNot (bytes_of v) 0 was is r → Writes v was is (ok_or r BufferTooShort)
-version-written v was is (Some end) p =
+pub version_written : (v : Version) (was is : List ℕ) (r : Option ℕ) → PutsOrNot (bytes_of v) 0 was is r → Writes v was is (ok_or r BufferTooShort)
+version_written v was is (Some end) p =
     let n = version-length v in
     let e = p.ends in
     (omega arith, omega arith, p.after, (undoes (version_law (length (slots v)))).reading (slots v) (version_good v))
-version-written v was is None p =
+version_written v was is None p =
     let n = version-length v in
     let s = p.0 in
     (omega arith, p.1, refl)

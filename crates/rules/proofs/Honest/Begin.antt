@@ -10,7 +10,7 @@ use Rattle.store.specs.Meaning.{StoreMeaning}
 use Rattle.rules.specs.declared.phase.Phase.{Phase}
 use Rattle.rules.specs.declared.phase.Phase.TheVariants.{Idle, Waiting, Stopped, Retired}
 use Rattle.rules.specs.Group.{Setup, SetUp, SiteState, HostState, GroupState, Member, own}
-use Rattle.rules.specs.Begin.{Request, read_of, write-of, code_of, register_of, value_of, Ranged, last_with, begun, Begun}
+use Rattle.rules.specs.Begin.{Request, read_of, write_of, code_of, register_of, value_of, Ranged, last_with, begun, Begun}
 use Rattle.rules.specs.Finish.{Completion}
 use Rattle.rules.specs.Taking.{Exchange, value_with}
 use Rattle.rules.specs.Runs.{OnlySite}
@@ -35,7 +35,7 @@ sites_at P x x' i o here else j = go (cases_eq j i)
 -- the digest of the last value, the new one included
 last_digest : (H : List ℕ → List ℕ) (o : Option (List ℕ)) (q : Request) → last_with H (option_map H o) q ≡ option_map H (value_with (code_of q) (value_of q) o)
 last_digest H o (read_of r) = refl
-last_digest H o (write-of v) = refl
+last_digest H o (write_of v) = refl
 
 module _ (p : Setup) (all : List Submission) (sch : SchemeMeaning) where
   -- the host is as it was
@@ -109,7 +109,7 @@ module _ (p : Setup) (all : List Submission) (sch : SchemeMeaning) where
 
       register_is : (q : Request) → Ranged p q → a.register ≡ register_of s.number q → Member p.size a.register
       register_is (read_of r) h e = subst (Member p.size) (sym e) h
-      register_is (write-of v) h e = subst (Member p.size) (sym (e ∙ g.number)) member
+      register_is (write_of v) h e = subst (Member p.size) (sym (e ∙ g.number)) member
 
       form : (submit p.size p.signature).Good a
       form =

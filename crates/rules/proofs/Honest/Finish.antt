@@ -31,7 +31,7 @@ use Rattle.rules.proofs.Honest.Begin.{sites_at, host_kept}
 use Rattle.rules.proofs.Honest.Good.{Signed, Fits, Numbered, Is, GoodExchange, GoodCompletion, Awaited, Awaiting, Standing, GoodSite, Good}
 use Rattle.rules.proofs.Honest.Messages.{reads_back, commit_good, version_stored_good, timestamp_fits}
 use Rattle.rules.proofs.Honest.Passes.{tracks_at, finished_times, passes}
-use Rattle.rules.proofs.Honest.Replies.{answer, numbered, place, fresh, submit-number, holds, reply_form}
+use Rattle.rules.proofs.Honest.Replies.{answer, numbered, place, fresh, submit_number, holds, reply_form}
 use Rattle.rules.proofs.Honest.Stops.{never_fails}
 use Rattle.rules.proofs.Honest.Stored.{version_good}
 use Rattle.rules.proofs.Honest.Taken.{of, times, value_by, last_here, last_read, one_last}
@@ -78,8 +78,8 @@ module _ (p : Setup) (all : List Submission) (sch : SchemeMeaning) where
       R = answer p all sch x w.good
 
       -- the reply is read as it was written
-      pub reply-read : (d : Response) → read_reply p c bs ≡ Ok d → d ≡ answer p all sch x w.good
-      reply-read d e =
+      pub reply_read : (d : Response) → read_reply p c bs ≡ Ok d → d ≡ answer p all sch x w.good
+      reply_read d e =
           reads_back (reply_law p.size p.signature) R d bs (reply_form p all sch x w.good set_up)
           (w.bytes ∙ ap (reply p.size p.signature).put w.good.answer) (reply_is p c bs d e).0
 
@@ -109,10 +109,10 @@ module _ (p : Setup) (all : List Submission) (sch : SchemeMeaning) where
       own_is : (slot (result p.digest s.number R).version s.number).timestamp ≡ own s + 1
       own_is =
           (tracks.fits s.number).0 ∙ ap (λ (k : ℕ). times k (a ∷ before)) w.site.number ∙ times_here of a before
-          ∙ sym (submit-number p all sch x w.good) ∙ w.timestamp
+          ∙ sym (submit_number p all sch x w.good) ∙ w.timestamp
 
-      pub site-completed : GoodSite p all sch written x.submission.site (completed p s R)
-      site-completed = record {
+      pub site_completed : GoodSite p all sch written x.submission.site (completed p s R)
+      site_completed = record {
         number = w.site.number;
         upto = a ∷ before;
         inside = place p all sch x w.good;
@@ -148,7 +148,7 @@ module _ (p : Setup) (all : List Submission) (sch : SchemeMeaning) where
       site = d.commit.site
 
       reply_is_ours : d.reply ≡ answer p all sch x w.good
-      reply_is_ours = reply-read set_up written s bs d.code d.register x w d.reply f.reads
+      reply_is_ours = reply_read set_up written s bs d.code d.register x w d.reply f.reads
 
       result_tracks : Tracks p.digest of p.size (result p.digest s.number d.reply) seen
       result_tracks =
@@ -161,11 +161,11 @@ module _ (p : Setup) (all : List Submission) (sch : SchemeMeaning) where
       long : length d.commit.version ≡ p.size
       long = ap length f.version ∙ result_tracks.long
 
-      site-same : x.submission.site ≡ d.commit.site
-      site-same = sym w.site.number ∙ sym f.site
+      site_same : x.submission.site ≡ d.commit.site
+      site_same = sym w.site.number ∙ sym f.site
 
       number : x.submission.timestamp ≡ suc (times x.submission.site (w.good.good.new ++ w.good.good.old))
-      number = submit-number p all sch x w.good
+      number = submit_number p all sch x w.good
 
       small : (k : ℕ) → times k seen < 256 ^ 4
       small =
@@ -186,7 +186,7 @@ module _ (p : Setup) (all : List Submission) (sch : SchemeMeaning) where
       commit_is : Is p all sch site (version_stored d.commit) seen
       commit_is = record {
         form = version_stored_good p.size p.signature d.commit form;
-        own = cut_here of site x.submission (w.good.good.new ++ w.good.good.old) site-same;
+        own = cut_here of site x.submission (w.good.good.new ++ w.good.good.old) site_same;
         fits = fits;
         signed =
             inr (
@@ -203,7 +203,7 @@ module _ (p : Setup) (all : List Submission) (sch : SchemeMeaning) where
         submission = x.submission;
         before = w.good.good.new ++ w.good.good.old;
         inside = place p all sch x w.good;
-        site = site-same;
+        site = site_same;
         number = number;
         is = commit_is;
         found = λ e.
@@ -218,7 +218,7 @@ module _ (p : Setup) (all : List Submission) (sch : SchemeMeaning) where
       pub site_good : GoodSite p all sch written x.submission.site s'
       site_good =
           subst (GoodSite p all sch written x.submission.site) (ap (completed p s) (sym reply_is_ours) ∙ sym f.after)
-          (site-completed set_up written s bs d.code d.register x w)
+          (site_completed set_up written s bs d.code d.register x w)
 
   -- what a reply to its ticket is to a site of the group
   pub answered_from :
@@ -273,6 +273,6 @@ module _ (p : Setup) (all : List Submission) (sch : SchemeMeaning) where
   no_stop set_up written s s' t bs was stop x b w =
       never_fails p sch s b.register b.answer
       (subst₂ (Passes p sch s) (this set_up written s bs b.code b.register x w).register
-      (sym (reply-read set_up written s bs b.code b.register x w b.answer b.reads))
+      (sym (reply_read set_up written s bs b.code b.register x w b.answer b.reads))
       (passes p all sch x w.good written s w.site w.timestamp))
       stop b.fails

@@ -14,7 +14,7 @@ use Rattle.message.specs.Slots.{value_slot, version_slot}
 use Rattle.message.specs.Submit.{Submission, submit}
 use Rattle.store.specs.Meaning.{StoreMeaning}
 use Rattle.rules.specs.Group.{Setup, Member}
-use Rattle.rules.specs.Begin.{Request, read_of, write-of, code_of, register_of, value_of, Short}
+use Rattle.rules.specs.Begin.{Request, read_of, write_of, code_of, register_of, value_of, Short}
 use Rattle.rules.specs.Taking.{value_at, value_with, stored, entry_of, version_stored}
 use Rattle.rules.proofs.Reading.{GoodVersion, member_from}
 
@@ -47,11 +47,11 @@ register_good n s r c small is own =
 -- what a request writes, and where
 value_good : (q : Request) → Short q → (written (code_of q)).Good (value_of q)
 value_good (read_of r) short = (absent_good, refl)
-value_good (write-of v) short = (present_good v short, refl)
+value_good (write_of v) short = (present_good v short, refl)
 
-own-register : (q : Request) (s r : ℕ) (c : Code) → c ≡ code_of q → r ≡ register_of s q → c ≡ Write → r ≡ s
-own-register (read_of x) s r c e f w = let z : ◌≡◌ {A = ℕ} 0 1 = cc in absurd (omega arith)
-own-register (write-of x) s r c e f w = f
+own_register : (q : Request) (s r : ℕ) (c : Code) → c ≡ code_of q → r ≡ register_of s q → c ≡ Write → r ≡ s
+own_register (read_of x) s r c e f w = let z : ◌≡◌ {A = ℕ} 0 1 = cc in absurd (omega arith)
+own_register (write_of x) s r c e f w = f
 
 -- a submit of a request that is within its limits
 pub submit_good :
@@ -64,15 +64,15 @@ submit_good n g a q small site_is register_is c r v short t s d = ((head, (t, (s
     head = (((omega arith, refl), refl), (site_good n a.site small site_is, (code_good a.code, named)))
       where
         named : (register n a.site a.code).Good a.register
-        named = register_good n a.site a.register a.code small register_is (own-register q a.site a.register a.code c r)
+        named = register_good n a.site a.register a.code small register_is (own_register q a.site a.register a.code c r)
 
     put : (written a.code).Good a.value
     put = subst₂ (λ (x : Code) (y : Option (List ℕ)). (written x).Good y) (sym c) (sym v) (value_good q short)
 
 -- the parts of a submit that has the form
 module _ (n g : ℕ) (a : Submission) (h : (submit n g).Good a) where
-  pub site-of : Member n a.site
-  site-of = member_from n a.site h.0.0.1.0.1
+  pub site_of : Member n a.site
+  site_of = member_from n a.site h.0.0.1.0.1
 
   pub register_of_it : Member n a.register
   register_of_it =

@@ -15,9 +15,9 @@ use Rattle.rules.specs.Running.{Running, from_reply, rise, rise_all, result}
 use Rattle.rules.specs.Checks.{SignedVersion, Proved, Follows, EntryProved, EntryPasses, EntriesPass, DataSignedAt, FoundPasses, AnswerPasses, Passes}
 use Rattle.rules.specs.Taking.{Exchange, version_at, own_at, value_after, held, found_at, entry_of}
 use Rattle.rules.proofs.Fitting.{D, Tracks, fits_none, fits_le}
-use Rattle.rules.proofs.Lists.{Ends, ends_trans, cut_ends, cut-same, one_cut, times_ends, times_here, times_more}
+use Rattle.rules.proofs.Lists.{Ends, ends_trans, cut_ends, cut_same, one_cut, times_ends, times_here, times_more}
 use Rattle.rules.proofs.Honest.Good.{Signed, Fits, Numbered, Is, Holds, GoodExchange, GoodSite}
-use Rattle.rules.proofs.Honest.Messages.{site-of, timestamp_fits}
+use Rattle.rules.proofs.Honest.Messages.{site_of, timestamp_fits}
 use Rattle.rules.proofs.Honest.Replies.{answer, numbered, place, fresh, count, tracks_list, tracks_committed, tracks_result, holds, recent, proof_at}
 use Rattle.rules.proofs.Honest.Taken.{of, times, cut, entries_of, last_none}
 
@@ -83,7 +83,7 @@ module _ (p : Setup) (all : List Submission) (sch : SchemeMeaning) where
 
         same : cut b.site (new ++ old) ≡ before
         same =
-            cut-same of b.site before (new ++ old) (ends_trans before old (new ++ old) (g.good.versions b.site).1 (new, refl))
+            cut_same of b.site before (new ++ old) (ends_trans before old (new ++ old) (g.good.versions b.site).1 (new, refl))
             (omega (
               arith,
               few b.site,
@@ -97,7 +97,7 @@ module _ (p : Setup) (all : List Submission) (sch : SchemeMeaning) where
         here : EntryProved sch i R w (entry_of b)
         here =
             subst₂ (Proved sch b.site) (sym ((t.fits b.site).1 ∙ ap (D p.digest of) same))
-            (sym (proof_at (λ k. (version_at p g.store k).proof_signature) p.size b.site (site-of p.size p.signature b n.0.form)))
+            (sym (proof_at (λ k. (version_at p g.store k).proof_signature) p.size b.site (site_of p.size p.signature b n.0.form)))
             (proved b.site (version_at p g.store b.site) before is)
 
     entries_pass :

@@ -17,7 +17,7 @@ use Rattle.rules.specs.Taking.{Exchange, version_at, own_at, value_after, entry_
 use Rattle.rules.proofs.Fitting.{D, Tracks, tracks_rise}
 use Rattle.rules.proofs.Lists.{Ends, times-append, times_ends}
 use Rattle.rules.proofs.Honest.Good.{Numbered, Holds, GoodHost, GoodExchange}
-use Rattle.rules.proofs.Honest.Messages.{site_good, code_good, site-of, entry_good}
+use Rattle.rules.proofs.Honest.Messages.{site_good, code_good, site_of, entry_good}
 use Rattle.rules.proofs.Honest.Taken.{of, times, entries_of}
 use Rattle.rules.proofs.Honest.TakeSubmit.{number, holds_after, recent_after}
 
@@ -52,7 +52,7 @@ module _ (p : Setup) (all : List Submission) (sch : SchemeMeaning) where
   tracks_list [] old w n t = t
   tracks_list (a ∷ new) old w n t =
       subst (λ (z : Running). Tracks p.digest of p.size z (a ∷ (new ++ old))) (sym (rise_snoc p.digest w (entries_of new) (entry_of a)))
-      (tracks_rise p.digest of p.size a (new ++ old) (rise_all p.digest w (entries_of new)) (site-of p.size p.signature a n.0.form)
+      (tracks_rise p.digest of p.size a (new ++ old) (rise_all p.digest w (entries_of new)) (site_of p.size p.signature a n.0.form)
       (tracks_list new old w n.1 t))
 
   module _ (x : Exchange) (g : GoodExchange p all sch x) where
@@ -74,8 +74,8 @@ module _ (p : Setup) (all : List Submission) (sch : SchemeMeaning) where
     pub place : Ends (x.submission ∷ (g.good.new ++ g.good.old)) all
     place = subst (λ (z : List Submission). Ends z all) whole g.inside
 
-    pub submit-number : x.submission.timestamp ≡ suc (times x.submission.site (g.good.new ++ g.good.old))
-    submit-number =
+    pub submit_number : x.submission.timestamp ≡ suc (times x.submission.site (g.good.new ++ g.good.old))
+    submit_number =
         subst (λ (z : List Submission). a.timestamp ≡ suc (times a.site z)) (sym ho.split)
         (number p all sch g.before g.host g.store a ho g.next g.submitted g.inside)
 
@@ -86,7 +86,7 @@ module _ (p : Setup) (all : List Submission) (sch : SchemeMeaning) where
         let parts : times a.site (ho.new ++ ho.old) ≡ times a.site ho.new + times a.site ho.old = times-append of a.site ho.new ho.old in
         omega (
           arith,
-          submit-number,
+          submit_number,
           parts,
           g.next.next,
           g.next.done,
@@ -95,7 +95,7 @@ module _ (p : Setup) (all : List Submission) (sch : SchemeMeaning) where
         )
 
     pub count : x.submission.timestamp ≡ suc (times x.submission.site g.good.old)
-    count = omega (arith, submit-number, fresh, times-append of a.site ho.new ho.old)
+    count = omega (arith, submit_number, fresh, times-append of a.site ho.new ho.old)
 
     -- the running version, after the committed one, after the list and after the operation itself
     pub tracks_committed : Tracks p.digest of p.size (from_reply answer) g.good.old
@@ -108,7 +108,7 @@ module _ (p : Setup) (all : List Submission) (sch : SchemeMeaning) where
     pub tracks_result : Tracks p.digest of p.size (result p.digest x.submission.site answer) (x.submission ∷ (g.good.new ++ g.good.old))
     tracks_result =
         tracks_rise p.digest of p.size a (ho.new ++ ho.old) (rise_all p.digest (from_reply answer) g.host.list)
-        (site-of p.size p.signature a g.submitted.follows.form)
+        (site_of p.size p.signature a g.submitted.follows.form)
         (subst (λ (l : List Listed). Tracks p.digest of p.size (rise_all p.digest (from_reply answer) l) (ho.new ++ ho.old)) (sym ho.list)
         (tracks_list ho.new ho.old (from_reply answer) numbered tracks_committed))
 

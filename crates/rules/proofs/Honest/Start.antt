@@ -13,7 +13,7 @@ use Rattle.rules.proofs.Lists.{ends_none, ends_refl}
 use Rattle.rules.proofs.Slots.{length-zeros}
 use Rattle.rules.proofs.Honest.Good.{Is, Holds, GoodSite, GoodHost, Good}
 use Rattle.rules.proofs.Honest.Messages.{absent_good}
-use Rattle.rules.proofs.Honest.Stored.{no_value, no_version, value-first, version-first, version_good}
+use Rattle.rules.proofs.Honest.Stored.{no_value, no_version, value_first, version_first, version_good}
 use Rattle.rules.proofs.Honest.Taken.{of, times}
 
 module _ (p : Setup) (all : List Submission) (sch : SchemeMeaning) (set_up : SetUp p) where
@@ -21,9 +21,9 @@ module _ (p : Setup) (all : List Submission) (sch : SchemeMeaning) (set_up : Set
   unfolding Lists.times
   none_times k = omega arith
 
-  first-version : (k : ℕ) → Is p all sch k (no_version p) []
+  first_version : (k : ℕ) → Is p all sch k (no_version p) []
   unfolding Lists.cut
-  first-version k = record {
+  first_version k = record {
     form = (
       (
         version_good p.digest set_up.wide of p.size (zeros p.size) [] (length-zeros p.size) (fits_zeros p.digest of p.size) none_times,
@@ -36,18 +36,18 @@ module _ (p : Setup) (all : List Submission) (sch : SchemeMeaning) (set_up : Set
     signed = inl refl;
   }
 
-  first-value : (k : ℕ) → Holds p all sch k (no_value p) []
+  first_value : (k : ℕ) → Holds p all sch k (no_value p) []
   unfolding Lists.times
-  first-value k = record {
+  first_value k = record {
     form = ((omega arith, (absent_good, length-replicate p.signature 0)), refl);
     timestamp = refl;
     value = refl;
     signed = inl refl;
   }
 
-  first-site : (k : ℕ) → GoodSite p all sch [] k (new_site p.size k)
+  first_site : (k : ℕ) → GoodSite p all sch [] k (new_site p.size k)
   unfolding Lists.cut
-  first-site k = record {
+  first_site k = record {
     number = refl;
     upto = [];
     inside = ends_none all;
@@ -66,19 +66,19 @@ module _ (p : Setup) (all : List Submission) (sch : SchemeMeaning) (set_up : Set
     list = refl;
     numbered = tt;
     member = (omega arith, set_up.size.0);
-    values = λ k. subst (λ (v : StoredValue). Holds p all sch k v []) (sym (value-first p m none k)) (first-value k);
+    values = λ k. subst (λ (v : StoredValue). Holds p all sch k v []) (sym (value_first p m none k)) (first_value k);
     versions = λ k. ([], ends_refl [], version k);
     recent = λ k. omega arith;
     lead = version 1;
   }
     where
       version : (k : ℕ) → Is p all sch k (version_at p m k) []
-      version k = subst (λ (v : StoredVersion). Is p all sch k v []) (sym (version-first p m set_up.size.0 none k)) (first-version k)
+      version k = subst (λ (v : StoredVersion). Is p all sch k v []) (sym (version_first p m set_up.size.0 none k)) (first_version k)
 
 pub start_good :
     (G : Group) (all : List Submission) (sch : SchemeMeaning) → Started G → Empty G.start.store → Good G.setup all sch [] [] [] G.start
 start_good G all sch started none = record {
-  sites = λ k. subst (GoodSite G.setup all sch [] k) (sym (started.sites k)) (first-site G.setup all sch started.set_up k);
+  sites = λ k. subst (GoodSite G.setup all sch [] k) (sym (started.sites k)) (first_site G.setup all sch started.set_up k);
   host =
       subst (λ (h : HostState). GoodHost G.setup all sch [] h G.start.store) (sym started.host)
       (first_host G.setup all sch started.set_up G.start.store none);

@@ -9,7 +9,7 @@ use Rattle.rules.specs.declared.refusal.Refusal.TheVariants.{OutOfRange, OutOfSe
 use Rattle.rules.specs.Group.{Setup, SetUp, SiteState, HostState, GroupState, Group}
 use Rattle.rules.specs.Finish.{Operation, Completion, finished, refused, stopped, in_phase, Abandons}
 use Rattle.rules.specs.Taking.{Exchange}
-use Rattle.rules.specs.Runs.{Call, begin, finish, abandon, take-submit, take-commit, OnlySite, OnlyHost, Step, Event, now}
+use Rattle.rules.specs.Runs.{Call, begin, finish, abandon, take_submit, take_commit, OnlySite, OnlyHost, Step, Event, now}
 use Rattle.rules.specs.Shown.{Deed, deed, began, completed, took, other, exchange_in, submissions, completions, exchanges}
 use Rattle.rules.specs.Law.{Delivered, taken}
 use Rattle.rules.proofs.Keeping.{Grows}
@@ -24,8 +24,8 @@ module _ (p : Setup) (all : List Submission) (sch : SchemeMeaning) (written : Li
   abbrev Kept : Type 0
   Kept = Good p all sch written done answered x → Good p all sch written done answered x'
 
-  site-step : (i : ℕ) → OnlySite x x' i → (GoodSite p all sch written i (x.sites i) → GoodSite p all sch written i (x'.sites i)) → Kept
-  site-step i o f g = record {
+  site_step : (i : ℕ) → OnlySite x x' i → (GoodSite p all sch written i (x.sites i) → GoodSite p all sch written i (x'.sites i)) → Kept
+  site_step i o f g = record {
     sites = sites_at (GoodSite p all sch written) x x' i o (f (g.sites i)) (λ j n. g.sites j);
     host = host_kept p all sch (map (λ (e : Exchange). e.submission) answered) x x' i o g.host;
     submits = g.submits;
@@ -34,8 +34,8 @@ module _ (p : Setup) (all : List Submission) (sch : SchemeMeaning) (written : Li
   }
 
   -- a refusal leaves all as it was
-  same-site : (i : ℕ) → OnlySite x x' i → x'.sites i ≡ x.sites i → Kept
-  same-site i o e = site-step i o (λ s. subst (GoodSite p all sch written i) (sym e) s)
+  same_site : (i : ℕ) → OnlySite x x' i → x'.sites i ≡ x.sites i → Kept
+  same_site i o e = site_step i o (λ s. subst (GoodSite p all sch written i) (sym e) s)
 
   same_host : OnlyHost x x' → x'.host ≡ x.host → x'.store ≡ x.store → Kept
   same_host o e f g = record {
@@ -48,7 +48,7 @@ module _ (p : Setup) (all : List Submission) (sch : SchemeMeaning) (written : Li
   }
 
   retire : (i : ℕ) → OnlySite x x' i → x'.sites i ≡ in_phase (x.sites i) Retired → Kept
-  retire i o e = site-step i o retired
+  retire i o e = site_step i o retired
     where
       retired : GoodSite p all sch written i (x.sites i) → GoodSite p all sch written i (x'.sites i)
       retired s = subst (GoodSite p all sch written i) (sym e) (record {
@@ -64,8 +64,8 @@ module _ (p : Setup) (all : List Submission) (sch : SchemeMeaning) (written : Li
   abandon_good : (i : ℕ) (t : Operation) → OnlySite x x' i → (a : Result (Unit {0}) Refusal) → Abandons (x.sites i) (x'.sites i) t a → Kept
   abandon_good i t o (Ok _) s = retire i o s.1
   abandon_good i t o (Err OutOfRange) s = absurd s
-  abandon_good i t o (Err OutOfService) s = same-site i o s.1
-  abandon_good i t o (Err OutOfTurn) s = same-site i o s.2
+  abandon_good i t o (Err OutOfService) s = same_site i o s.1
+  abandon_good i t o (Err OutOfTurn) s = same_site i o s.2
   abandon_good i t o (Err ValueTooLong) s = absurd s
   abandon_good i t o (Err TimestampLimit) s = absurd s
   abandon_good i t o (Err TooFewSignatures) s = absurd s
@@ -79,8 +79,8 @@ Fine (finish i t bs was is (finished d)) = Unit {0}
 Fine (finish i t bs was is (refused e)) = Unit {0}
 Fine (finish i t bs was is (stopped k)) = ⊥
 Fine (abandon i t a) = Unit {0}
-Fine (take-submit bs was is a) = Unit {0}
-Fine (take-commit bs a) = Unit {0}
+Fine (take_submit bs was is a) = Unit {0}
+Fine (take_commit bs a) = Unit {0}
 
 module _ (G : Group) (set_up : SetUp G.setup) (all : List Submission) (sch : SchemeMeaning) where
   -- what holds after a run
@@ -93,27 +93,27 @@ module _ (G : Group) (set_up : SetUp G.setup) (all : List Submission) (sch : Sch
   step_good r (begin i q was is (Ok a)) x s d f t k g =
       begin_good G.setup all sch set_up (submissions r) (completions r) (exchanges r) (now G r) x i q was is a s.0 s.1 s.2 k g
   step_good r (begin i q was is (Err e)) x s d f t k g =
-      same-site G.setup all sch (submissions r) (completions r) (exchanges r) (now G r) x i s.1 s.2.2 g
+      same_site G.setup all sch (submissions r) (completions r) (exchanges r) (now G r) x i s.1 s.2.2 g
   step_good r (finish i o bs was is (finished c)) x s d f t k g =
       finish_good G.setup all sch set_up (submissions r) (completions r) (exchanges r) (now G r) x i o bs was is c d.exchange s.0 s.1 s.3
       d.given d.ticket d.bytes k g
   step_good r (finish i o bs was is (refused e)) x s d f t k g =
-      same-site G.setup all sch (submissions r) (completions r) (exchanges r) (now G r) x i s.1 s.3.2 g
+      same_site G.setup all sch (submissions r) (completions r) (exchanges r) (now G r) x i s.1 s.3.2 g
   step_good r (finish i o bs was is (stopped e)) x s d f t k g = absurd f
   step_good r (abandon i o a) x s d f t k g =
       abandon_good G.setup all sch (submissions r) (completions r) (exchanges r) (now G r) x i o s.1 a s.3 g
-  step_good r (take-submit bs was is (Ok e)) x s d f t k g =
+  step_good r (take_submit bs was is (Ok e)) x s d f t k g =
       take_submit_good G.setup all sch (submissions r) (completions r) (exchanges r) (now G r) x bs was is e s.0 s.2 d t g
-  step_good r (take-submit bs was is (Err e)) x s d f t k g =
+  step_good r (take_submit bs was is (Err e)) x s d f t k g =
       same_host G.setup all sch (submissions r) (completions r) (exchanges r) (now G r) x s.0 s.2.1 s.2.2 g
-  step_good r (take-commit bs (Ok c)) x s d f t k g =
+  step_good r (take_commit bs (Ok c)) x s d f t k g =
       take_commit_good G.setup all sch (submissions r) (completions r) (exchanges r) (now G r) x bs c s.0 s.2 d t g
-  step_good r (take-commit bs (Err e)) x s d f t k g =
+  step_good r (take_commit bs (Err e)) x s d f t k g =
       same_host G.setup all sch (submissions r) (completions r) (exchanges r) (now G r) x s.0 s.2.1 s.2.2 g
 
 -- what was taken before is the older part of what was taken
-pub taken-before : (all : List Submission) (r : List Event) (e : Event) → Ends (taken (e ∷ r)) all → Ends (taken r) all
-taken-before all r e = go (deed e.call)
+pub taken_before : (all : List Submission) (r : List Event) (e : Event) → Ends (taken (e ∷ r)) all → Ends (taken r) all
+taken_before all r e = go (deed e.call)
   where
     go : (d : Deed) → Ends (map (λ (x : Exchange). x.submission) (exchange_in d ++ exchanges r)) all → Ends (taken r) all
     go (began q a) t = t

@@ -65,15 +65,15 @@ module _ (p : Setup) (m m' : StoreMeaning) (i : ℕ) where
       ∙ ap (λ (r : Result StoredVersion ℕ). result_unwrap_or r (no_version p)) ((undoes (version_slot_law p.size p.signature)).reading v h)
 
 -- an empty slot does not read
-pub value-first : (p : Setup) (m : StoreMeaning) → Empty m → (i : ℕ) → value_at p m i ≡ no_value p
-value-first p m none i = ap (λ (b : List ℕ). result_unwrap_or (read (value_slot p.signature) b) (no_value p)) (none Value i)
+pub value_first : (p : Setup) (m : StoreMeaning) → Empty m → (i : ℕ) → value_at p m i ≡ no_value p
+value_first p m none i = ap (λ (b : List ℕ). result_unwrap_or (read (value_slot p.signature) b) (no_value p)) (none Value i)
 
 version_unread : (n g : ℕ) (d : StoredVersion) → 1 ≤ n → result_unwrap_or (read (version_slot n g) []) d ≡ d
 version_unread zero g d some = absurd (omega arith)
 version_unread (suc n) g d some = refl
 
-pub version-first : (p : Setup) (m : StoreMeaning) → 1 ≤ p.size → Empty m → (i : ℕ) → version_at p m i ≡ no_version p
-version-first p m some none i =
+pub version_first : (p : Setup) (m : StoreMeaning) → 1 ≤ p.size → Empty m → (i : ℕ) → version_at p m i ≡ no_version p
+version_first p m some none i =
     ap (λ (b : List ℕ). result_unwrap_or (read (version_slot p.size p.signature) b) (no_version p)) (none Version i)
     ∙ version_unread p.size p.signature (no_version p) some
 

@@ -13,12 +13,12 @@ use Rattle.rules.specs.Finish.{Completion}
 use Rattle.rules.specs.Taking.{Exchange, value_at, version_at, own_at, after_last, nowhere_below, somewhere_above, leads, version_stored, TookCommit}
 use Rattle.rules.specs.Runs.{OnlyHost}
 use Rattle.rules.specs.Shown.{◌∈◌}
-use Rattle.rules.proofs.Lists.{Ends, ends_refl, ends_trans, times-append, times_ends, past-cut, past_new, cut_ends, cut-same, cut_skip, cut_new, one_cut}
+use Rattle.rules.proofs.Lists.{Ends, ends_refl, ends_trans, times-append, times_ends, past_cut, past_new, cut_ends, cut_same, cut_skip, cut_new, one_cut}
 use Rattle.rules.proofs.Honest.Good.{Is, Holds, GoodHost, GoodCompletion, GoodSite, Good}
 use Rattle.rules.proofs.Honest.Leads.{nowhere_from, somewhere_find, somewhere_from}
 use Rattle.rules.proofs.Honest.Messages.{reads_back, committer_of, version_stored_good}
 use Rattle.rules.proofs.Honest.Stored.{value_kept, version_here, version_else}
-use Rattle.rules.proofs.Honest.Taken.{of, times, cut, past, entries_of, after-past}
+use Rattle.rules.proofs.Honest.Taken.{of, times, cut, past, entries_of, after_past}
 use Rattle.rules.proofs.Honest.TakeSubmit.{in_map}
 
 module _ (p : Setup) (all : List Submission) (sch : SchemeMeaning) where
@@ -29,11 +29,11 @@ module _ (p : Setup) (all : List Submission) (sch : SchemeMeaning) where
     inside : Ends upto all
     is : Is p all sch c.site (version_stored c) upto
 
-  read-written :
+  read_written :
       (done : List Completion) (bs : List ℕ) (c : Commitment) → ((d : Completion) → d ∈ done → GoodCompletion p all sch d)
       → bs ∈ map (λ (d : Completion). (commit p.size p.signature).put d.commit) done → read (commit p.size p.signature) bs ≡ Ok c
       → Written c
-  read-written done bs c good m r =
+  read_written done bs c good m r =
       let w = in_map (λ (d : Completion). (commit p.size p.signature).put d.commit) bs done m in
       let g = good w.0 w.1 in
       subst Written (sym (reads_back (commit_law p.size p.signature) w.0.commit c bs g.form w.2 r))
@@ -134,9 +134,9 @@ module _ (p : Setup) (all : List Submission) (sch : SchemeMeaning) where
       lead_good l = record {
         old = u;
         new = past i taken;
-        split = ap (λ (z : List Submission). past i taken ++ z) cut_is ∙ past-cut of i taken;
+        split = ap (λ (z : List Submission). past i taken ++ z) cut_is ∙ past_cut of i taken;
         list =
-            ap (after_last i) ho.list ∙ after-past i ho.new
+            ap (after_last i) ho.list ∙ after_past i ho.new
             ∙ ap entries_of (sym (past_new of i ho.new ho.old (lead_in l)) ∙ ap (past i) ho.split);
         numbered = ho.numbered;
         member = committer_of p.size p.signature c w.form;
@@ -170,7 +170,7 @@ module _ (p : Setup) (all : List Submission) (sch : SchemeMeaning) where
           same e =
               let own : cut i ho.old ≡ ho.old = subst (λ (z : ℕ). cut z ho.old ≡ ho.old) e ho.lead.own in
               let one : cut i ho.old ≡ cut i u =
-              cut-same of i u ho.old low (omega (arith, count, parts, (w.is.fits i).0, times_ends of i u ho.old low)) in
+              cut_same of i u ho.old low (omega (arith, count, parts, (w.is.fits i).0, times_ends of i u ho.old low)) in
               subst (Is p all sch i (version_stored c)) (sym w.is.own ∙ sym one ∙ own) w.is
 
       took_host : GoodHost p all sch taken h' m'
@@ -188,7 +188,7 @@ module _ (p : Setup) (all : List Submission) (sch : SchemeMeaning) where
     sites = λ k. subst (λ (f : ℕ → SiteState). GoodSite p all sch written k (f k)) (sym o.sites) (g.sites k);
     host =
         took_host (map (λ (z : Exchange). z.submission) answered) x.host x'.host x.store x'.store bs c g.host t
-        (read-written done bs c g.completions delivered t.reads) inside;
+        (read_written done bs c g.completions delivered t.reads) inside;
     submits = g.submits;
     completions = g.completions;
     exchanges = g.exchanges;

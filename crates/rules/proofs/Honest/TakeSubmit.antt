@@ -103,8 +103,8 @@ module _ (p : Setup) (all : List Submission) (sch : SchemeMeaning) where
       abbrev entered : List ℕ
       entered = (value_slot p.signature).put (stored p m a)
 
-      value-now : (k : ℕ) → value_after p m a k ≡ value_at p m' k
-      value-now k =
+      value_now : (k : ℕ) → value_after p m a k ≡ value_at p m' k
+      value_now k =
           cond_both (eqb a.site k) (stored p m a) (value_at p m k) (λ (v : StoredValue). v ≡ value_at p m' k)
           (λ e.
           subst (λ (z : ℕ). stored p m a ≡ value_at p m' z) (eqb-true a.site k e)
@@ -124,7 +124,7 @@ module _ (p : Setup) (all : List Submission) (sch : SchemeMeaning) where
             (record { form = sub.follows.form; number = number taken h m a ho t.next sub inside; signed = sub.follows.signed }, ho.numbered);
         member = ho.member;
         values =
-            λ k. subst (λ (v : StoredValue). Holds p all sch k v (a ∷ taken)) (value-now k) (holds_after taken h m a ho t.next sub inside k);
+            λ k. subst (λ (v : StoredValue). Holds p all sch k v (a ∷ taken)) (value_now k) (holds_after taken h m a ho t.next sub inside k);
         versions = λ k. ((ho.versions k).0, (ho.versions k).1, subst (λ (v : StoredVersion). Is p all sch k v (ho.versions k).0) (kept k) (ho.versions k).2);
         recent =
             λ k.
@@ -147,10 +147,10 @@ module _ (p : Setup) (all : List Submission) (sch : SchemeMeaning) where
       }
 
   -- a submit that was taken is one that its site wrote
-  read-written :
+  read_written :
       (written : List Submission) (bs : List ℕ) (a : Submission) → ((b : Submission) → b ∈ written → GoodSubmit p all sch b)
       → bs ∈ map (submit p.size p.signature).put written → read (submit p.size p.signature) bs ≡ Ok a → a ∈ written
-  read-written written bs a good m r =
+  read_written written bs a good m r =
       let w = in_map (submit p.size p.signature).put bs written m in
       subst (λ (z : Submission). z ∈ written)
       (sym (reads_back (submit_law p.size p.signature) w.0 a bs (good w.0 w.1).follows.form w.2 r)) w.1
@@ -174,7 +174,7 @@ module _ (p : Setup) (all : List Submission) (sch : SchemeMeaning) where
       taken = map (λ (z : Exchange). z.submission) answered
 
       is_written : e.submission ∈ written
-      is_written = read-written written bs e.submission g.submits delivered t.reads
+      is_written = read_written written bs e.submission g.submits delivered t.reads
 
       sub : GoodSubmit p all sch e.submission
       sub = g.submits e.submission is_written

@@ -101,12 +101,12 @@ after_snoc k (x ∷ l) e =
     go false false true = refl
     go false false false = refl
 
-pub after-past : (k : ℕ) (new : List Submission) → after_last k (entries_of new) ≡ entries_of (past k new)
+pub after_past : (k : ℕ) (new : List Submission) → after_last k (entries_of new) ≡ entries_of (past k new)
 unfolding Lists.past
-after-past k [] = refl
-after-past k (x ∷ new) =
+after_past k [] = refl
+after_past k (x ∷ new) =
     after_snoc k (entries_of new) (entry_of x)
-    ∙ ap (λ (z : List Listed). cond (eqb x.site k) [] (z ++ (entry_of x ∷ []))) (after-past k new)
+    ∙ ap (λ (z : List Listed). cond (eqb x.site k) [] (z ++ (entry_of x ∷ []))) (after_past k new)
     ∙ go (eqb x.site k)
   where
     go : (b : Bool) → cond b [] (entries_of (past k new) ++ (entry_of x ∷ [])) ≡ entries_of (cond b [] (x ∷ past k new))

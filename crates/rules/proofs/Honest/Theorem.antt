@@ -5,7 +5,7 @@ use Rattle.signature.specs.Meaning.{SchemeMeaning}
 use Rattle.store.specs.Meaning.{Empty}
 use Rattle.rules.specs.Group.{Setup, GroupState, Group, Started, slot}
 use Rattle.rules.specs.Finish.{Operation, finished, refused, stopped}
-use Rattle.rules.specs.Runs.{Call, begin, finish, abandon, take-submit, take-commit, Step, Event, now, Run}
+use Rattle.rules.specs.Runs.{Call, begin, finish, abandon, take_submit, take_commit, Step, Event, now, Run}
 use Rattle.rules.specs.Shown.{◌∈◌, submissions, completions, exchanges, value_found}
 use Rattle.rules.specs.History.{operation, operation_of}
 use Rattle.rules.specs.Law.{last_taken, taken, Delivered, Delivers, NoStop, Comparable, ReadsFresh}
@@ -15,7 +15,7 @@ use Rattle.rules.proofs.Lists.{Ends, ends_refl, in_middle, cut_here, one_cut, ti
 use Rattle.rules.proofs.Honest.Finish.{answered_from, no_stop}
 use Rattle.rules.proofs.Honest.Good.{Numbered, GoodCompletion, Standing}
 use Rattle.rules.proofs.Honest.Start.{start_good}
-use Rattle.rules.proofs.Honest.Steps.{Fine, GoodAfter, step_good, taken-before}
+use Rattle.rules.proofs.Honest.Steps.{Fine, GoodAfter, step_good, taken_before}
 use Rattle.rules.proofs.Honest.Taken.{of, times, cut}
 
 -- the number of a submit among those taken
@@ -37,7 +37,7 @@ module _ (G : Group) (started : Started G) (none : Empty G.start.store) where
   run_good all sch [] run d c t k = start_good G all sch started none
   run_good all sch (e ∷ r) run d c t k =
       step_good G started.set_up all sch r e.call e.after run.0 d.0 c.0 t k
-      (run_good all sch r run.2 d.1 c.1 (taken-before all r e t)
+      (run_good all sch r run.2 d.1 c.1 (taken_before all r e t)
       (λ i text signature v. k i text signature (step_grows G.setup (now G r) e.after e.call run.0 i text signature v)))
 
   -- what holds, stated of the run itself
@@ -57,8 +57,8 @@ module _ (G : Group) (started : Started G) (none : Empty G.start.store) where
       d.exchange g b.awaits d.given d.ticket d.bytes in
       no_stop G.setup (taken r) (now G r).scheme started.set_up (submissions r) ((now G r).sites i) (x.sites i) t bs was k d.exchange b w.1
   next_fine r (abandon i t a) x g s d = tt
-  next_fine r (take-submit bs was is a) x g s d = tt
-  next_fine r (take-commit bs a) x g s d = tt
+  next_fine r (take_submit bs was is a) x g s d = tt
+  next_fine r (take_commit bs a) x g s d = tt
 
   clean : (r : List Event) → Run G r → Delivers G r → Clean r
   clean [] run d = tt

@@ -6,7 +6,7 @@ use Rattle.message.specs.Submit.{Submission}
 use Rattle.rules.specs.declared.phase.Phase.TheVariants.{Stopped}
 use Rattle.rules.specs.declared.stop.Stop.TheVariants.{Forked}
 use Rattle.rules.specs.Group.{SiteState, new_site, new_host}
-use Rattle.rules.specs.Begin.{Request, write-of, begun}
+use Rattle.rules.specs.Begin.{Request, write_of, begun}
 use Rattle.rules.specs.Checks.{Passes, Follows}
 use Rattle.rules.specs.Finish.{Completion, completed, finished, stopped, in_phase, StoppedBy}
 use Rattle.rules.specs.Taking.{replied}
@@ -18,7 +18,7 @@ use Rattle.rules.proofs.Samples.Steps.{room, asked, submit_written, begins, done
 use Rattle.rules.proofs.Samples.Overtaken.{le_same}
 
 abbrev write : Request
-write = write-of (7 ∷ [])
+write = write_of (7 ∷ [])
 
 abbrev idle1 : SiteState
 idle1 = new_site 2 1

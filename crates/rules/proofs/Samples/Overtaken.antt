@@ -9,11 +9,11 @@ use Rattle.store.specs.declared.slot.Slot.TheVariants.{Value}
 use Rattle.store.specs.Meaning.{StoreMeaning, Sound}
 use Rattle.version.specs.Order.{Slot, AtOrBelow}
 use Rattle.rules.specs.Group.{SiteState, HostState, GroupState, new_site, new_host}
-use Rattle.rules.specs.Begin.{Request, read_of, write-of, begun}
+use Rattle.rules.specs.Begin.{Request, read_of, write_of, begun}
 use Rattle.rules.specs.Checks.{Passes}
 use Rattle.rules.specs.Finish.{Completion, completed, finished}
 use Rattle.rules.specs.Taking.{replied, stored}
-use Rattle.rules.specs.Runs.{begin, finish, take-submit, Step, Event, Run}
+use Rattle.rules.specs.Runs.{begin, finish, take_submit, Step, Event, Run}
 use Rattle.rules.specs.History.{operation}
 use Rattle.rules.specs.Law.{Replays, Delivers}
 use Rattle.rules.specs.Examples.{Overtaken}
@@ -39,7 +39,7 @@ le_same v = at_or_below_from v v refl (λ i. record { stamp = le_refl (Rattle.ru
 
 -- the write of site 1, and the host that took it
 abbrev write : Request
-write = write-of (7 ∷ [])
+write = write_of (7 ∷ [])
 
 abbrev read : Request
 read = read_of 1
@@ -108,7 +108,7 @@ e1 = record { call = begin 1 write room (submit_written idle1 write) (Ok sub1); 
 
 abbrev e2 : Event
 e2 = record {
-  call = take-submit ((submit 2 1).put sub1) room (reply_written new_host no_slots sub1) (Ok (exchange new_host no_slots sub1));
+  call = take_submit ((submit 2 1).put sub1) room (reply_written new_host no_slots sub1) (Ok (exchange new_host no_slots sub1));
   after = state wait1 idle2 host1 store1;
 }
 
@@ -117,7 +117,7 @@ e3 = record { call = begin 2 read room (submit_written idle2 read) (Ok sub2); af
 
 abbrev e4 : Event
 e4 = record {
-  call = take-submit ((submit 2 1).put sub2) room (reply_written host1 store1 sub2) (Ok (exchange host1 store1 sub2));
+  call = take_submit ((submit 2 1).put sub2) room (reply_written host1 store1 sub2) (Ok (exchange host1 store1 sub2));
   after = state wait1 wait2 host2 store2;
 }
 

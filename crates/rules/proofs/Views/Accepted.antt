@@ -31,9 +31,9 @@ use Rattle.rules.specs.Shown.{
 use Rattle.rules.specs.Law.{Replays}
 use Rattle.rules.proofs.Reading.{GoodVersion, EntryFits, zero_version}
 use Rattle.rules.proofs.Views.Deeds.{Did, Completes, Doings}
-use Rattle.rules.proofs.Views.Results.{Foreign, own-slot, foreign_from}
+use Rattle.rules.proofs.Views.Results.{Foreign, own_slot, foreign_from}
 use Rattle.rules.proofs.Views.Sites.{current, current_is, good_commits}
-use Rattle.rules.proofs.Views.Signed.{commit-signed, proof_signed}
+use Rattle.rules.proofs.Views.Signed.{commit_signed, proof_signed}
 
 pub each_left : {A : Type 0} (P : A → Type 0) (s t : List A) → Each P (s ++ t) → Each P s
 each_left P [] t h = tt
@@ -82,7 +82,7 @@ module _ (p : Setup) where
   pub own_is : (ds : List Completion) (d : Completion) → Accepted ds d
       → slot d.commit.version d.commit.site
       ≡ slot_with ((slot d.reply.version d.commit.site).timestamp + 1) (Some (p.digest (link (rise_all p.digest (from_reply d.reply) d.reply.entries).digest d.commit.site)))
-  own_is ds d a = ap (λ (v : List Slot). slot v d.commit.site) a.version ∙ own-slot p.digest p.size d.commit.site d.reply a.site a.long a.foreign
+  own_is ds d a = ap (λ (v : List Slot). slot v d.commit.site) a.version ∙ own_slot p.digest p.size d.commit.site d.reply a.site a.long a.foreign
 
   -- it has a digest
   Told : Completion → Type 0
@@ -105,7 +105,7 @@ module _ (G : Group) (r : List Event) (chain : Chain G.setup (completions r)) wh
     where
       go : (b : Bool) → is_zero v ≡ b → Each InRun (cond b [] (signing i (commit_string v) g ∷ [])) → From G.setup (completions r) i v
       go true e all = inl (e, zero_version G.setup.size v h e)
-      go false e all = inr (e, commit-signed G G.setup.size r goods i v g h all.0)
+      go false e all = inr (e, commit_signed G G.setup.size r goods i v g h all.0)
 
   vouched_checked : (i : ℕ) (b : Option (List ℕ)) (g : List ℕ) → Each InRun (proof_checked i b g) → Vouched G.setup (completions r) i b
   unfolding Told

@@ -8,7 +8,7 @@ use Rattle.message.specs.Submit.{Submission}
 use Rattle.message.proofs.Tags.{strings_tell_apart}
 use Rattle.rules.specs.declared.phase.Phase.TheVariants.{Idle}
 use Rattle.rules.specs.Group.{SiteState, GroupState, Group, Started}
-use Rattle.rules.specs.Begin.{Request, read_of, write-of, value_of, last_with}
+use Rattle.rules.specs.Begin.{Request, read_of, write_of, value_of, last_with}
 use Rattle.rules.specs.Runs.{Event, now}
 use Rattle.rules.specs.Shown.{
   ◌∈◌,
@@ -28,13 +28,13 @@ use Rattle.rules.specs.History.{or_else}
 use Rattle.rules.proofs.Lists.{in_cases}
 use Rattle.rules.proofs.Views.Deeds.{rests_last, Did, Begins, at_sites, Doings}
 use Rattle.rules.proofs.Views.Sites.{begun_by, paced_in, paced}
-use Rattle.rules.proofs.Views.Signed.{same-site, same_text, kinds_differ}
+use Rattle.rules.proofs.Views.Signed.{same_site, same_text, kinds_differ}
 use Rattle.rules.proofs.Views.Written.{latest, Next, Known, known_more, latest_new}
 
 -- the digest of the last value with one request more
 last_with-or_else : (H : List ℕ → List ℕ) (q : Request) (v : Option (List ℕ)) → last_with H (option_map H v) q ≡ option_map H (or_else (value_of q) v)
 last_with-or_else H (read_of r) v = refl
-last_with-or_else H (write-of x) v = refl
+last_with-or_else H (write_of x) v = refl
 
 module _ (G : Group) (started : Started G) where
   -- a site begins its operations one after the other
@@ -106,21 +106,21 @@ module _ (G : Group) (started : Started G) where
   wide_digest (Some x) = started.set_up.wide x
 
   module _ (i t : ℕ) (d : Option (List ℕ)) (g : List ℕ) (small : t < 2 ^ 32) (wide : WideDigest d) where
-    signed-now : (r : List Event) → Doings G r → (x' : GroupState) (k : Deed) → Did G.setup (now G r) x' k
+    signed_now : (r : List Event) → Doings G r → (x' : GroupState) (k : Deed) → Did G.setup (now G r) x' k
         → signing i (data_string t d) g ∈ signed_in G.setup.digest (now G r) k → Known G.setup.digest (submission_in k ++ submissions r) i t d
-    signed-now r does x' (began q a) b (inl e) = absurd (kinds_differ 1 0 _ _ (omega arith) (same_text e))
-    signed-now r does x' (began q a) b (inr (inl e)) =
+    signed_now r does x' (began q a) b (inl e) = absurd (kinds_differ 1 0 _ _ (omega arith) (same_text e))
+    signed_now r does x' (began q a) b (inr (inl e)) =
         let H = G.setup.digest in
         let k = signs_last (submissions r) (now G r) x' q a (next r does x' q a b) b (keeps r does a.site) in
         let same = strings_tell_apart.datas t a.timestamp d (last_with H ((now G r).sites a.site).last q) small (omega (arith, b.below)) wide
         (subst WideDigest (sym k.last) (wide_digest _)) (same_text e) in
-        subst₃ (Known H (a ∷ submissions r)) (sym (same-site e)) (sym same.0) (sym same.1) k
-    signed-now r does x' (began q a) b (inr (inr m)) = absurd m
-    signed-now r does x' (completed c) b (inl e) = absurd (kinds_differ 1 2 _ _ (omega arith) (same_text e))
-    signed-now r does x' (completed c) b (inr (inl e)) = absurd (kinds_differ 1 3 _ _ (omega arith) (same_text e))
-    signed-now r does x' (completed c) b (inr (inr m)) = absurd m
-    signed-now r does x' (took c) b m = absurd m
-    signed-now r does x' other b m = absurd m
+        subst₃ (Known H (a ∷ submissions r)) (sym (same_site e)) (sym same.0) (sym same.1) k
+    signed_now r does x' (began q a) b (inr (inr m)) = absurd m
+    signed_now r does x' (completed c) b (inl e) = absurd (kinds_differ 1 2 _ _ (omega arith) (same_text e))
+    signed_now r does x' (completed c) b (inr (inl e)) = absurd (kinds_differ 1 3 _ _ (omega arith) (same_text e))
+    signed_now r does x' (completed c) b (inr (inr m)) = absurd m
+    signed_now r does x' (took c) b m = absurd m
+    signed_now r does x' other b m = absurd m
 
     -- a site signed as its data only the digest of the value that it had last written
     pub data_signed : (r : List Event) → Doings G r → signing i (data_string t d) g ∈ signed G r → Known G.setup.digest (submissions r) i t d
@@ -130,5 +130,5 @@ module _ (G : Group) (started : Started G) where
       where
         go : (signing i (data_string t d) g ∈ signed_in G.setup.digest (now G r) (deed e.call)) ⊎ (signing i (data_string t d) g ∈ signed G r)
             → (signing i (data_string t d) g ∈ signed G r → Known G.setup.digest (submissions r) i t d) → Known G.setup.digest (submissions (e ∷ r)) i t d
-        go (inl k) old = signed-now r does.1 e.after (deed e.call) does.0 k
+        go (inl k) old = signed_now r does.1 e.after (deed e.call) does.0 k
         go (inr k) old = known_step r does.1 e.after (deed e.call) does.0 i t d (old k)

@@ -10,7 +10,7 @@ use Rattle.rules.specs.Begin.{Request, value_of, begun, Ended}
 use Rattle.rules.specs.Running.{result}
 use Rattle.rules.specs.Checks.{Passes}
 use Rattle.rules.specs.Finish.{Operation, Completion, completed as after-completion, finished, refused, stopped, in_phase, Abandons}
-use Rattle.rules.specs.Runs.{Call, begin, finish, abandon, take-submit, take-commit, Step, OnlySite, Event, now, Run}
+use Rattle.rules.specs.Runs.{Call, begin, finish, abandon, take_submit, take_commit, Step, OnlySite, Event, now, Run}
 use Rattle.rules.specs.Shown.{Deed, began, completed, took, other, deed}
 use Rattle.rules.proofs.Keeping.{number_kept}
 use Rattle.rules.proofs.Reading.{ReplyFits, reply_fits}
@@ -19,8 +19,8 @@ use Rattle.rules.proofs.Reading.{ReplyFits, reply_fits}
 abbrev pub numbered : ℕ → SiteState → SiteState
 numbered i s = record { number = i; version = s.version; last = s.last; phase = s.phase }
 
-numbered-same : (i : ℕ) (s : SiteState) → s.number ≡ i → s ≡ numbered i s
-numbered-same i s e = λ k. record { number = e k; version = s.version; last = s.last; phase = s.phase }
+numbered_same : (i : ℕ) (s : SiteState) → s.number ≡ i → s ≡ numbered i s
+numbered_same i s e = λ k. record { number = e k; version = s.version; last = s.last; phase = s.phase }
 
 -- a site stays as it was, or its service ends
 pub record Ends (s s' : SiteState) : Type 0 where
@@ -106,7 +106,7 @@ module _ (p : Setup) (x x' : GroupState) where
   pub did : ((i : ℕ) → (x.sites i).number ≡ i) → (c : Call) → Step p x c x' → Did (deed c)
   did number (begin i q was is (Ok a)) s =
       let b = s.2 in
-      let same = numbered-same i (x.sites i) (number i) in
+      let same = numbered_same i (x.sites i) (number i) in
       subst (λ (z : ℕ). Begins z q a) (sym (b.site ∙ number i))
       (record {
         member = s.0;
@@ -120,7 +120,7 @@ module _ (p : Setup) (x x' : GroupState) where
   did number (begin i q was is (Err e)) s = rest_from i s.1 (inl s.2.2)
   did number (finish i t bs was is (finished d)) s =
       let f = s.3 in
-      let same = numbered-same i (x.sites i) (number i) in
+      let same = numbered_same i (x.sites i) (number i) in
       subst (λ (z : ℕ). Completes z d) (sym (f.site ∙ number i))
       (record {
         member = s.0;
@@ -134,9 +134,9 @@ module _ (p : Setup) (x x' : GroupState) where
   did number (finish i t bs was is (refused e)) s = rest_from i s.1 (inl s.3.2)
   did number (finish i t bs was is (stopped k)) s = rest_from i s.1 (inr (in_phase_ends (x.sites i) (x'.sites i) Stopped tt s.3.0.after))
   did number (abandon i t answer) s = rest_from i s.1 (abandon_rest i t answer s.3)
-  did number (take-submit bs was is (Ok a)) s = λ j. inl (ap (λ (f : ℕ → SiteState). f j) s.0.sites)
-  did number (take-submit bs was is (Err e)) s = λ j. inl (ap (λ (f : ℕ → SiteState). f j) s.0.sites)
-  did number (take-commit bs answer) s = λ j. inl (ap (λ (f : ℕ → SiteState). f j) s.0.sites)
+  did number (take_submit bs was is (Ok a)) s = λ j. inl (ap (λ (f : ℕ → SiteState). f j) s.0.sites)
+  did number (take_submit bs was is (Err e)) s = λ j. inl (ap (λ (f : ℕ → SiteState). f j) s.0.sites)
+  did number (take_commit bs answer) s = λ j. inl (ap (λ (f : ℕ → SiteState). f j) s.0.sites)
 
 -- and so for each call of a run
 abbrev pub Doings : Group → List Event → Type 0

@@ -2,7 +2,7 @@
 use Rattle.std.proofs.Common.{ℕ, List, [], ◌∷◌, ◌++◌, Option, subst, inl, inr}
 use Rattle.message.specs.Submit.{Submission}
 use Rattle.rules.specs.Group.{Group}
-use Rattle.rules.specs.Begin.{Request, read_of, write-of, value_of}
+use Rattle.rules.specs.Begin.{Request, read_of, write_of, value_of}
 use Rattle.rules.specs.Running.{all_links}
 use Rattle.rules.specs.Finish.{Completion}
 use Rattle.rules.specs.Runs.{Event, now}
@@ -42,19 +42,19 @@ module _ (H : List ℕ → List ℕ) where
       go (took t) n old = old n
       go other n old = old n
 
-  pub links-digested : (r : List Event) → Spread H (digested H r) (completions r)
-  links-digested r d m x k = finish_digested r d m x (in_left x (all_links H d.commit.site d.reply) (listed (value_found d.reply.found)) k)
+  pub links_digested : (r : List Event) → Spread H (digested H r) (completions r)
+  links_digested r d m x k = finish_digested r d m x (in_left x (all_links H d.commit.site d.reply) (listed (value_found d.reply.found)) k)
 
-  pub found-digested : (r : List Event) (d : Completion) → d ∈ completions r → Within (digested H r) (value_found d.reply.found)
-  found-digested r d m x k = finish_digested r d m x (in_right x (all_links H d.commit.site d.reply) (listed (value_found d.reply.found)) k)
+  pub found_digested : (r : List Event) (d : Completion) → d ∈ completions r → Within (digested H r) (value_found d.reply.found)
+  found_digested r d m x k = finish_digested r d m x (in_right x (all_links H d.commit.site d.reply) (listed (value_found d.reply.found)) k)
 
 request_value : (q : Request) (x : List ℕ) → x ∈ listed (value_of q) → x ∈ written_in q
 request_value (read_of r) x m = m
-request_value (write-of v) x m = m
+request_value (write_of v) x m = m
 
-pub written-digested : (G : Group) (r : List Event) → Doings G r → (a : Submission) → a ∈ submissions r → Within (digested G.setup.digest r) a.value
-written-digested G [] does a m x k = absurd m
-written-digested G (e ∷ r) does a m x k = go (deed e.call) does.0 m (λ n. written-digested G r does.1 a n x k)
+pub written_digested : (G : Group) (r : List Event) → Doings G r → (a : Submission) → a ∈ submissions r → Within (digested G.setup.digest r) a.value
+written_digested G [] does a m x k = absurd m
+written_digested G (e ∷ r) does a m x k = go (deed e.call) does.0 m (λ n. written_digested G r does.1 a n x k)
   where
     H : List ℕ → List ℕ
     H = G.setup.digest

@@ -65,28 +65,28 @@ module _ (H : List ℕ → List ℕ) where
 
   module _ (wide : (bs : List ℕ) → length (H bs) ≡ 32) (S : List (List ℕ)) (apart : Apart S) where
     -- a digest is known from its bytes
-    digest-of : (h h' : List ℕ) → unwrap_or (D H itself h) [] ≡ unwrap_or (D H itself h') [] → D H itself h ≡ D H itself h'
-    digest-of [] [] e = refl
-    digest-of [] (k ∷ h) e = absurd (omega (arith, wide (link (D H itself h) k), ap length e))
-    digest-of (k ∷ h) [] e = absurd (omega (arith, wide (link (D H itself h) k), ap length e))
-    digest-of (k ∷ h) (k' ∷ h') e = ap Some e
+    digest_of : (h h' : List ℕ) → unwrap_or (D H itself h) [] ≡ unwrap_or (D H itself h') [] → D H itself h ≡ D H itself h'
+    digest_of [] [] e = refl
+    digest_of [] (k ∷ h) e = absurd (omega (arith, wide (link (D H itself h) k), ap length e))
+    digest_of (k ∷ h) [] e = absurd (omega (arith, wide (link (D H itself h) k), ap length e))
+    digest_of (k ∷ h) (k' ∷ h') e = ap Some e
 
-    pub same-history : (h h' : List ℕ) → Told S h → Told S h' → D H itself h ≡ D H itself h' → h ≡ h'
-    same-history [] h' t t' e = sym (no_digest h' (sym e))
-    same-history (k ∷ h) [] t t' e = no_digest (k ∷ h) e
-    same-history (k ∷ h) (k' ∷ h') t t' e =
+    pub same_history : (h h' : List ℕ) → Told S h → Told S h' → D H itself h ≡ D H itself h' → h ≡ h'
+    same_history [] h' t t' e = sym (no_digest h' (sym e))
+    same_history (k ∷ h) [] t t' e = no_digest (k ∷ h) e
+    same_history (k ∷ h) (k' ∷ h') t t' e =
         let same : H (link (D H itself h) k) ≡ H (link (D H itself h') k') = cc in
         let parts = last_off (unwrap_or (D H itself h) []) (unwrap_or (D H itself h') []) k k' (apart _ t.0 _ t'.0 same) in
-        let below : h ≡ h' = same-history h h' t.1 t'.1 (digest-of h h' parts.0) in
+        let below : h ≡ h' = same_history h h' t.1 t'.1 (digest_of h h' parts.0) in
         let first : k ≡ k' = parts.1 in
         cc
 
     -- a value is known from its digest
-    pub same-value : (u v : Option (List ℕ)) → ((x : List ℕ) → x ∈ listed u → x ∈ S) → ((x : List ℕ) → x ∈ listed v → x ∈ S) → option_map H u ≡ option_map H v → u ≡ v
-    same-value None None a b e = refl
-    same-value None (Some y) a b e = cc
-    same-value (Some x) None a b e = cc
-    same-value (Some x) (Some y) a b e = let same : H x ≡ H y = cc in ap Some (apart x (a x (inl refl)) y (b y (inl refl)) same)
+    pub same_value : (u v : Option (List ℕ)) → ((x : List ℕ) → x ∈ listed u → x ∈ S) → ((x : List ℕ) → x ∈ listed v → x ∈ S) → option_map H u ≡ option_map H v → u ≡ v
+    same_value None None a b e = refl
+    same_value None (Some y) a b e = cc
+    same_value (Some x) None a b e = cc
+    same_value (Some x) (Some y) a b e = let same : H x ≡ H y = cc in ap Some (apart x (a x (inl refl)) y (b y (inl refl)) same)
 
 pub collision_or_apart : (G : Group) (r : List Event) → Collision G r ⊎ Apart G.setup.digest (digested G.setup.digest r)
 collision_or_apart G r = go (some_or_all SomeOne All row S)

@@ -6,7 +6,7 @@ use Rattle.rules.specs.Finish.{Operation, Completion}
 use Rattle.rules.specs.Shown.{◌∈◌, is_zero}
 use Rattle.rules.specs.History.{operation, operation_of, same_operation, extended, extended_by, history_of, history}
 use Rattle.rules.proofs.Views.Accepted.{Chain, From}
-use Rattle.rules.proofs.Views.Names.{named, onto, extended-named, extended_by-named}
+use Rattle.rules.proofs.Views.Names.{named, onto, extended_named, extended_by-named}
 use Rattle.rules.proofs.Views.Once.{newest}
 
 -- the committer's operation
@@ -35,7 +35,7 @@ history_of-seen (d ∷ ds) t = go (same_operation (operation_of d) t) (is_zero d
     more h b e =
         ap (λ (l : List Operation). extended (extended_by l d.reply.entries) i) e
         ∙ ap (λ (l : List Operation). extended l i) (extended_by-named b d.reply.entries)
-        ∙ extended-named (onto d.reply.entries b) i
+        ∙ extended_named (onto d.reply.entries b) i
 
     go : (here none : Bool) → history_of ds (commit_of d) ≡ named (seen_of ds (commit_of d)) → history_of ds t ≡ named (seen_of ds t)
         → cond here (extended (extended_by (cond none [] (history_of ds (commit_of d))) d.reply.entries) i) (history_of ds t)
@@ -44,11 +44,11 @@ history_of-seen (d ∷ ds) t = go (same_operation (operation_of d) t) (is_zero d
     go true false e f = more (history_of ds (commit_of d)) (seen_of ds (commit_of d)) e
     go false none e f = f
 
-pub history-seen : (ds : List Completion) (d : Completion) → history ds d ≡ named (seen ds d)
-history-seen ds d = history_of-seen ds (operation_of d)
+pub history_seen : (ds : List Completion) (d : Completion) → history ds d ≡ named (seen ds d)
+history_seen ds d = history_of-seen ds (operation_of d)
 
-same-itself : (t : Operation) → same_operation t t ≡ true
-same-itself t = grind arith
+same_itself : (t : Operation) → same_operation t t ≡ true
+same_itself t = grind arith
 
 module _ (p : Setup) where
   -- another operation finished later changes nothing
@@ -76,7 +76,7 @@ module _ (p : Setup) where
         i = d.commit.site
 
         first : h d ≡ i ∷ onto d.reply.entries (cond (is_zero d.reply.version) [] (seen_of ds (commit_of d)))
-        first = new ∙ cond-true (same_operation (operation_of d) (operation_of d)) _ _ (same-itself (operation_of d))
+        first = new ∙ cond-true (same_operation (operation_of d) (operation_of d)) _ _ (same_itself (operation_of d))
 
         with_start : (b : List ℕ) → cond (is_zero d.reply.version) [] (seen_of ds (commit_of d)) ≡ b → h d ≡ i ∷ onto d.reply.entries b
         with_start b e = first ∙ ap (λ (l : List ℕ). i ∷ onto d.reply.entries l) e

@@ -8,14 +8,14 @@ use Rattle.rules.specs.Running.{Running, from_reply, rise, links, all_links}
 use Rattle.rules.specs.Finish.{Completion}
 use Rattle.rules.specs.Shown.{◌∈◌, Each}
 use Rattle.rules.proofs.Lists.{Ends, ends_more, cut, cut_ends, times, in_left}
-use Rattle.rules.proofs.Slots.{slot-zeros, at_or_below_at}
+use Rattle.rules.proofs.Slots.{slot_zeros, at_or_below_at}
 use Rattle.rules.proofs.Fitting.{D}
 use Rattle.rules.proofs.Views.Results.{Foreign}
 use Rattle.rules.proofs.Views.Sites.{current}
 use Rattle.rules.proofs.Views.Accepted.{Accepted, Chain, Vouched, AllVouched}
 use Rattle.rules.proofs.Views.Names.{itself, onto}
 use Rattle.rules.proofs.Views.Histories.{View, Views}
-use Rattle.rules.proofs.Views.Digests.{Apart, Told, told_ends, no_digest, same-history}
+use Rattle.rules.proofs.Views.Digests.{Apart, Told, told_ends, no_digest, same_history}
 use Rattle.rules.proofs.Views.Tracking.{Spread, Walked, walk_one, Good, start}
 
 module _ (h : Completion → List ℕ) (R : List Completion) where
@@ -49,7 +49,7 @@ module _ (p : Setup) (wide : (bs : List ℕ) → length (p.digest bs) ≡ 32) (h
     linked_by i b d e t (inr (o, m, s, same)) =
         let g = good o m in
         let below = told_ends p.digest S (cut itself i b) b (cut_ends itself i b) t in
-        inr (o, up o m, s, same-history p.digest wide S apart (h o) (cut itself i b) g.told below (sym g.own ∙ same ∙ e))
+        inr (o, up o m, s, same_history p.digest wide S apart (h o) (cut itself i b) g.told below (sym g.own ∙ same ∙ e))
 
     linked_entries : (w : Running) (b : List ℕ) (es : List Listed) → Each (λ (e : Listed). Member p.size e.site) es
         → ((x : List ℕ) → x ∈ links p.digest w es → x ∈ S) → AllVouched p ds w es → Walked p h S w b → Linked h R b → Linked h R (onto es b)
@@ -61,7 +61,7 @@ module _ (p : Setup) (wide : (bs : List ℕ) → length (p.digest bs) ≡ 32) (h
 
     -- the version of a site's last operation
     current_vouched : (cs : List Completion) → ((o : Completion) → o ∈ cs → o ∈ ds) → (i : ℕ) → Vouched p ds i (slot (current p.size cs i) i).digest
-    current_vouched [] sub i = inl (ap (λ (s : Slot). s.digest) (slot-zeros p.size i))
+    current_vouched [] sub i = inl (ap (λ (s : Slot). s.digest) (slot_zeros p.size i))
     current_vouched (o ∷ cs) sub i = go (cases_eq o.commit.site i) (current_vouched cs (λ q m. sub q (inr m)) i)
       where
         Now : List Slot → Type 0

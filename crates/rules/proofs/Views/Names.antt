@@ -22,18 +22,18 @@ count_last : (k : ℕ) (o : Operation) (h : List Operation) → count k (h ++ (o
 count_last k o [] = grind arith
 count_last k o (x ∷ h) = let ih = count_last k o h in grind arith
 
-pub count-named : (k : ℕ) (h : List ℕ) → count k (named h) ≡ times itself k h
+pub count_named : (k : ℕ) (h : List ℕ) → count k (named h) ≡ times itself k h
 unfolding named times
-count-named k [] = refl
-count-named k (j ∷ h) = let ih = count-named k h in let last = count_last k (operation j (times itself j h + 1)) (named h) in grind arith
+count_named k [] = refl
+count_named k (j ∷ h) = let ih = count_named k h in let last = count_last k (operation j (times itself j h + 1)) (named h) in grind arith
 
-pub extended-named : (h : List ℕ) (k : ℕ) → extended (named h) k ≡ named (k ∷ h)
+pub extended_named : (h : List ℕ) (k : ℕ) → extended (named h) k ≡ named (k ∷ h)
 unfolding named
-extended-named h k = ap (λ (t : ℕ). named h ++ (operation k (t + 1) ∷ [])) (count-named k h)
+extended_named h k = ap (λ (t : ℕ). named h ++ (operation k (t + 1) ∷ [])) (count_named k h)
 
 pub extended_by-named : (h : List ℕ) (es : List Listed) → extended_by (named h) es ≡ named (onto es h)
 extended_by-named h [] = refl
-extended_by-named h (e ∷ es) = ap (λ (l : List Operation). extended_by l es) (extended-named h e.site) ∙ extended_by-named (e.site ∷ h) es
+extended_by-named h (e ∷ es) = ap (λ (l : List Operation). extended_by l es) (extended_named h e.site) ∙ extended_by-named (e.site ∷ h) es
 
 -- the sites of a history
 sites : List Operation → List ℕ

@@ -10,7 +10,7 @@ use Rattle.rules.proofs.Slots.{at_or_below_at}
 use Rattle.rules.proofs.Fitting.{D, fits_le}
 use Rattle.rules.proofs.Views.Accepted.{Chain}
 use Rattle.rules.proofs.Views.Names.{itself}
-use Rattle.rules.proofs.Views.Digests.{Apart, told_ends, same-history}
+use Rattle.rules.proofs.Views.Digests.{Apart, told_ends, same_history}
 use Rattle.rules.proofs.Views.Once.{own_time, own_some, once}
 use Rattle.rules.proofs.Views.Tracking.{Good}
 use Rattle.rules.proofs.Views.Linked.{Link, Linked, linked_at}
@@ -26,8 +26,8 @@ module _
     (good : (d : Completion) → d ∈ R → Good p h S d)
     (linked : (d : Completion) → d ∈ R → Linked h R (h d))
   where
-    own-times : (d : Completion) → d ∈ R → own_time d ≡ times itself d.commit.site (h d)
-    own-times d m = ((good d m).fits d.commit.site).0
+    own_times : (d : Completion) → d ∈ R → own_time d ≡ times itself d.commit.site (h d)
+    own_times d m = ((good d m).fits d.commit.site).0
 
     -- A version at or below another counts no more operations of its own site. With as many, the digests tell that its history is the
     -- other's up to the last of these; with fewer, the next one in the other's history goes on from it.
@@ -45,11 +45,11 @@ module _
         later f ends t (inl none) =
             let c = times_cut itself i f in
             let some = own_some p R chain d m in
-            let own = own-times d m in
+            let own = own_times d m in
             absurd (grind arith)
         later f ends t (inr (u, n, s, e)) =
-            let own : own_time u ≡ times itself i (h u) = own-times u n ∙ ap (λ (k : ℕ). times itself k (h u)) s in
-            let one : u ≡ d = once p R chain u d n m s (own ∙ ap (times itself i) e ∙ times_cut itself i f ∙ t ∙ sym (own-times d m)) in
+            let own : own_time u ≡ times itself i (h u) = own_times u n ∙ ap (λ (k : ℕ). times itself k (h u)) s in
+            let one : u ≡ d = once p R chain u d n m s (own ∙ ap (times itself i) e ∙ times_cut itself i f ∙ t ∙ sym (own_times d m)) in
             ends_trans (h d) f (h o) (subst (λ (l : List ℕ). Ends l f) (sym e ∙ ap h one) (cut_ends itself i f)) ends
 
         go : (times itself i (h d) ≡ times itself i (h o)) ⊎ (times itself i (h d) ≡ times itself i (h o) → ⊥) → Ends (h d) (h o)
@@ -57,7 +57,7 @@ module _
             let stamps = ((good d m).fits i).0 ∙ e ∙ sym ((good o k).fits i).0 in
             let digests : D p.digest itself (h d) ≡ D p.digest itself (cut itself i (h o)) = sym (good d m).own ∙ at.told stamps ∙ ((good o k).fits i).1 in
             let told = told_ends p.digest S (cut itself i (h o)) (h o) (cut_ends itself i (h o)) (good o k).told in
-            let same : h d ≡ cut itself i (h o) = same-history p.digest wide S apart (h d) (cut itself i (h o)) (good d m).told told digests in
+            let same : h d ≡ cut itself i (h o) = same_history p.digest wide S apart (h d) (cut itself i (h o)) (good d m).told told digests in
             subst (λ (l : List ℕ). Ends l (h o)) (sym same) (cut_ends itself i (h o))
         go (inr n) =
             let w = linked_at h R i (times itself i (h d)) (h o) (linked o k) (omega (arith, n, at.stamp, ((good d m).fits i).0, ((good o k).fits i).0)) in

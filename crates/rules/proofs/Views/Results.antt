@@ -32,9 +32,9 @@ module _ (H : List ℕ → List ℕ) where
   foreign_kept i w (e ∷ es) h = foreign_kept i (rise H w e.site) es h.1 ∙ slot_set_other w.version e.site i _ h.0
 
   -- and its own operation adds one
-  pub own-slot : (n i : ℕ) (a : Response) → Member n i → length a.version ≡ n → Foreign i a.entries
+  pub own_slot : (n i : ℕ) (a : Response) → Member n i → length a.version ≡ n → Foreign i a.entries
       → slot (result H i a).version i ≡ slot_with ((slot a.version i).timestamp + 1) (Some (H (link (rise_all H (from_reply a) a.entries).digest i)))
-  own-slot n i a is l h =
+  own_slot n i a is l h =
       let w = rise_all H (from_reply a) a.entries in
       let long : length w.version ≡ n = length-rise_all (from_reply a) a.entries ∙ l in
       let new : Slot = slot_with ((slot w.version i).timestamp + 1) (Some (H (link w.digest i))) in

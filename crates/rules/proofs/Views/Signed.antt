@@ -13,8 +13,8 @@ use Rattle.rules.specs.Shown.{◌∈◌, Deed, began, completed, took, other, de
 use Rattle.rules.proofs.Lists.{in_left, in_right, in_cases}
 use Rattle.rules.proofs.Reading.{GoodVersion}
 
-pub same-site : {s t : Signing} → s ≡ t → s.site ≡ t.site
-same-site e = ap (λ (z : Signing). z.site) e
+pub same_site : {s t : Signing} → s ≡ t → s.site ≡ t.site
+same_site e = ap (λ (z : Signing). z.site) e
 
 pub same_text : {s t : Signing} → s ≡ t → s.text ≡ t.text
 same_text e = ap (λ (z : Signing). z.text) e
@@ -72,8 +72,8 @@ kinds_differ j k x y h e = h.2 (strings_tell_apart.kinds j k x y h.0 h.1 e)
 begin_differs : (s : Signing) (k : ℕ) (x : List ℕ) → (1 < k) × (k < 4) → s.text ≡ tag k ++ x → AtBegin s → ⊥
 begin_differs s k x h e b = let less = b.2 in kinds_differ b.0 k b.1 x (omega arith) (sym b.3 ∙ e)
 
-version-same : (n : ℕ) (u v : List Slot) → GoodVersion n u → GoodVersion n v → commit_string u ≡ commit_string v → u ≡ v
-version-same n u v g h e =
+version_same : (n : ℕ) (u v : List Slot) → GoodVersion n u → GoodVersion n v → commit_string u ≡ commit_string v → u ≡ v
+version_same n u v g h e =
     let bytes : (version_field n).put u ≡ (version_field n).put v = cc in
     let back : good u [] ≡ good v [] =
     sym ((version_law n).there u [] g) ∙ ap (λ (l : List ℕ). (version_field n).get (l ++ [])) bytes ∙ (version_law n).there v [] h in
@@ -81,11 +81,11 @@ version-same n u v g h e =
 
 module _ (G : Group) (n : ℕ) (r : List Event) where
   -- a site signed as its commit only the version of an operation that it finished
-  pub commit-signed :
+  pub commit_signed :
       ((d : Completion) → d ∈ completions r → GoodVersion n d.commit.version) → (i : ℕ) (v : List Slot) (g : List ℕ) → GoodVersion n v
       → signing i (commit_string v) g ∈ signed G r
       → (d : Completion) × (d ∈ completions r) × (d.commit.site ≡ i) × (d.commit.version ≡ v)
-  commit-signed goods i v g h m = go (signed_where G r s m)
+  commit_signed goods i v g h m = go (signed_where G r s m)
     where
       s : Signing
       s = signing i (commit_string v) g
@@ -96,7 +96,7 @@ module _ (G : Group) (n : ℕ) (r : List Event) where
       go : AtBegin s ⊎ AtFinish (completions r) s → Found
       go (inl b) = absurd (begin_differs s 2 _ (omega arith) refl b)
       go (inr (d, k, inl e)) =
-          (d, k, sym (same-site e), sym (version-same n v d.commit.version h (goods d k) (same_text e)))
+          (d, k, sym (same_site e), sym (version_same n v d.commit.version h (goods d k) (same_text e)))
       go (inr (d, k, inr e)) = absurd (kinds_differ 2 3 _ _ (omega arith) (same_text e))
 
   -- and as its proof only its own digest in such a version
@@ -115,4 +115,4 @@ module _ (G : Group) (n : ℕ) (r : List Event) where
       go (inl k) = absurd (begin_differs s 3 _ (omega arith) refl k)
       go (inr (d, k, inl e)) = absurd (kinds_differ 3 2 _ _ (omega arith) (same_text e))
       go (inr (d, k, inr e)) =
-          (d, k, sym (same-site e), sym (strings_tell_apart.proofs b _ (same_text e)))
+          (d, k, sym (same_site e), sym (strings_tell_apart.proofs b _ (same_text e)))

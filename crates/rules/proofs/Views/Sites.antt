@@ -11,10 +11,10 @@ use Rattle.rules.specs.Running.{from_reply}
 use Rattle.rules.specs.Finish.{Completion}
 use Rattle.rules.specs.Runs.{Event, now}
 use Rattle.rules.specs.Shown.{◌∈◌, Deed, began, completed, took, other, deed, submission_in, submissions, completion_in, completions}
-use Rattle.rules.proofs.Slots.{slot-zeros}
+use Rattle.rules.proofs.Slots.{slot_zeros}
 use Rattle.rules.proofs.Reading.{GoodVersion}
 use Rattle.rules.proofs.Views.Deeds.{Rests, rests_version, Did, Completes, at_sites, Doings}
-use Rattle.rules.proofs.Views.Results.{own-slot, foreign_from, good_result}
+use Rattle.rules.proofs.Views.Results.{own_slot, foreign_from, good_result}
 
 -- how many operations of the site i were begun
 abbrev pub begun_by : ℕ → List Submission → ℕ
@@ -46,10 +46,10 @@ current n [] i = zeros n
 current n (d ∷ ds) i = cond (eqb d.commit.site i) d.commit.version (current n ds i)
 
 module _ (p : Setup) (x x' : GroupState) where
-  own-after : (i : ℕ) (d : Completion) → Completes p x x' i d → (slot (x'.sites i).version i).timestamp ≡ (slot (x.sites i).version i).timestamp + 1
-  own-after i d c =
+  own_after : (i : ℕ) (d : Completion) → Completes p x x' i d → (slot (x'.sites i).version i).timestamp ≡ (slot (x.sites i).version i).timestamp + 1
+  own_after i d c =
       let foreign = foreign_from p.digest x.scheme i d.reply (from_reply d.reply) d.reply.entries c.passes.list in
-      let e = ap (λ (s : Slot). s.timestamp) (own-slot p.digest p.size i d.reply c.member c.fits.version.0 foreign) in
+      let e = ap (λ (s : Slot). s.timestamp) (own_slot p.digest p.size i d.reply c.member c.fits.version.0 foreign) in
       ap (λ (s : SiteState). (slot s.version i).timestamp) c.after ∙ e ∙ ap (λ (t : ℕ). t + 1) (sym c.passes.follows.same)
 
   rest_paced : (j begun : ℕ) → Rests (x.sites j) (x'.sites j) → Paced j (x.sites j) begun → Paced j (x'.sites j) begun
@@ -76,7 +76,7 @@ module _ (p : Setup) (x x' : GroupState) where
       here h =
           let i = d.commit.site in
           let waits = paced_in i (x.sites i) (begun_by i subs) (Waiting d.code d.register) c.waits h in
-          let idle : Pace Idle (slot (x'.sites i).version i).timestamp (begun_by i subs) = waits.0 ∙ sym (own-after i d c) in
+          let idle : Pace Idle (slot (x'.sites i).version i).timestamp (begun_by i subs) = waits.0 ∙ sym (own_after i d c) in
           subst (λ (f : Phase). Pace f (slot (x'.sites i).version i).timestamp (begun_by i subs)) (sym (ap (λ (s : SiteState). s.phase) c.after)) idle
 
       there : (j : ℕ) → (j ≡ d.commit.site → ⊥) → x'.sites j ≡ x.sites j → Paced j (x.sites j) (begun_by j subs) → Paced j (x'.sites j) (begun_by j subs)
@@ -84,28 +84,28 @@ module _ (p : Setup) (x x' : GroupState) where
   paced_step subs (took t) b = λ j. rest_paced j (begun_by j subs) (b j)
   paced_step subs other b = λ j. rest_paced j (begun_by j subs) (b j)
 
-  current-step : (n : ℕ) (ds : List Completion) (k : Deed) → Did p x x' k → (j : ℕ) → (x.sites j).version ≡ current n ds j
+  current_step : (n : ℕ) (ds : List Completion) (k : Deed) → Did p x x' k → (j : ℕ) → (x.sites j).version ≡ current n ds j
       → (x'.sites j).version ≡ current n (completion_in k ++ ds) j
-  current-step n ds (began q a) b = λ j h.
+  current_step n ds (began q a) b = λ j h.
       at_sites p x x' a.site b.others (λ i. (x'.sites i).version ≡ (x.sites i).version) (ap (λ (s : SiteState). s.version) b.after)
       (λ i m e. ap (λ (s : SiteState). s.version) e) j
       ∙ h
-  current-step n ds (completed d) c =
+  current_step n ds (completed d) c =
       at_sites p x x' d.commit.site c.others (λ i. (x.sites i).version ≡ current n ds i → (x'.sites i).version ≡ current n (d ∷ ds) i)
       (λ h. ap (λ (s : SiteState). s.version) c.after ∙ sym c.version ∙ sym (cond-true _ _ _ (eq-eqb d.commit.site d.commit.site refl)))
       (λ j m e h. ap (λ (s : SiteState). s.version) e ∙ h ∙ sym (cond-false _ _ _ (ne_eqb d.commit.site j (λ z. m (sym z)))))
-  current-step n ds (took t) b = λ j h. rests_version (x.sites j) (x'.sites j) (b j) ∙ h
-  current-step n ds other b = λ j h. rests_version (x.sites j) (x'.sites j) (b j) ∙ h
+  current_step n ds (took t) b = λ j h. rests_version (x.sites j) (x'.sites j) (b j) ∙ h
+  current_step n ds other b = λ j h. rests_version (x.sites j) (x'.sites j) (b j) ∙ h
 
 module _ (G : Group) (started : Started G) where
   pub paced : (r : List Event) → Doings G r → (i : ℕ) → Paced i ((now G r).sites i) (begun_by i (submissions r))
-  paced [] does i = subst (λ (s : SiteState). Paced i s 0) (sym (started.sites i)) (sym (ap (λ (s : Slot). s.timestamp) (slot-zeros G.setup.size i)))
+  paced [] does i = subst (λ (s : SiteState). Paced i s 0) (sym (started.sites i)) (sym (ap (λ (s : Slot). s.timestamp) (slot_zeros G.setup.size i)))
   paced (e ∷ r) does i = paced_step G.setup (now G r) e.after (submissions r) (deed e.call) does.0 i (paced r does.1 i)
 
   pub current_is : (r : List Event) → Doings G r → (i : ℕ) → ((now G r).sites i).version ≡ current G.setup.size (completions r) i
   current_is [] does i = ap (λ (s : SiteState). s.version) (started.sites i)
   current_is (e ∷ r) does i =
-      current-step G.setup (now G r) e.after G.setup.size (completions r) (deed e.call) does.0 i (current_is r does.1 i)
+      current_step G.setup (now G r) e.after G.setup.size (completions r) (deed e.call) does.0 i (current_is r does.1 i)
 
   good_one : (r : List Event) → Doings G r → (x' : GroupState) (d : Completion) → Completes G.setup (now G r) x' d.commit.site d → GoodVersion G.setup.size d.commit.version
   good_one r does x' d c =

@@ -10,14 +10,14 @@ use Rattle.rules.specs.Law.{Replays, Collision, Counts, Ordered, ReadsLast}
 use Rattle.rules.proofs.Lists.{Ends}
 use Rattle.rules.proofs.Views.Deeds.{Doings, doings}
 use Rattle.rules.proofs.Views.Accepted.{Chain, accepted}
-use Rattle.rules.proofs.Views.Names.{count-named, front_named}
-use Rattle.rules.proofs.Views.Digests.{Apart, same-value, collision_or_apart}
-use Rattle.rules.proofs.Views.Histories.{seen, history-seen, Views, views_from}
+use Rattle.rules.proofs.Views.Names.{count_named, front_named}
+use Rattle.rules.proofs.Views.Digests.{Apart, same_value, collision_or_apart}
+use Rattle.rules.proofs.Views.Histories.{seen, history_seen, Views, views_from}
 use Rattle.rules.proofs.Views.Tracking.{Good, all_good}
 use Rattle.rules.proofs.Views.Linked.{Linked, all_linked}
 use Rattle.rules.proofs.Views.Ordered.{le_as_ends}
 use Rattle.rules.proofs.Views.Written.{latest, latest_within, last_written-named}
-use Rattle.rules.proofs.Views.Digested.{links-digested, found-digested, written-digested}
+use Rattle.rules.proofs.Views.Digested.{links_digested, found_digested, written_digested}
 use Rattle.rules.proofs.Views.Reads.{reads_known}
 
 module _ (G : Group) (started : Started G) (r : List Event) (run : Run G r) (replays : Replays G r) where
@@ -32,15 +32,15 @@ module _ (G : Group) (started : Started G) (r : List Event) (run : Run G r) (rep
   views = views_from G.setup (seen (completions r)) (completions r) chain (λ o m. refl)
 
   good : (d : Completion) → d ∈ completions r → Good G.setup (seen (completions r)) (digested G.setup.digest r) d
-  good = all_good G.setup (seen (completions r)) (digested G.setup.digest r) (completions r) chain views (links-digested G.setup.digest r)
+  good = all_good G.setup (seen (completions r)) (digested G.setup.digest r) (completions r) chain views (links_digested G.setup.digest r)
 
   pub counts_hold : Counts G r
-  counts_hold d m i is = ((good d m).fits i).0 ∙ sym (count-named i (seen (completions r) d)) ∙ ap (count i) (sym (history-seen (completions r) d))
+  counts_hold d m i is = ((good d m).fits i).0 ∙ sym (count_named i (seen (completions r) d)) ∙ ap (count i) (sym (history_seen (completions r) d))
 
   ordered : Apart G.setup.digest (digested G.setup.digest r) → Ordered G r
   ordered apart d o m k = (
-    λ le. subst₂ Front (sym (history-seen (completions r) d)) (sym (history-seen (completions r) o)) ((front_named (h d) (h o)).0 (at.0 le)),
-    λ front. at.1 ((front_named (h d) (h o)).1 (subst₂ Front (history-seen (completions r) d) (history-seen (completions r) o) front)),
+    λ le. subst₂ Front (sym (history_seen (completions r) d)) (sym (history_seen (completions r) o)) ((front_named (h d) (h o)).0 (at.0 le)),
+    λ front. at.1 ((front_named (h d) (h o)).1 (subst₂ Front (history_seen (completions r) d) (history_seen (completions r) o) front)),
   )
     where
       h : Completion → List ℕ
@@ -51,7 +51,7 @@ module _ (G : Group) (started : Started G) (r : List Event) (run : Run G r) (rep
 
       linked : (q : Completion) → q ∈ completions r → Linked h (completions r) (h q)
       linked =
-          all_linked G.setup started.set_up.wide h S apart (completions r) (completions r) chain views (links-digested G.setup.digest r) (λ q n. n) good
+          all_linked G.setup started.set_up.wide h S apart (completions r) (completions r) chain views (links_digested G.setup.digest r) (λ q n. n) good
 
       at : AtOrBelow d.commit.version o.commit.version ↔ Ends (h d) (h o)
       at = le_as_ends G.setup started.set_up.wide h S apart (completions r) chain good linked d o m k
@@ -59,7 +59,7 @@ module _ (G : Group) (started : Started G) (r : List Event) (run : Run G r) (rep
   reads_last : Apart G.setup.digest (digested G.setup.digest r) → ReadsLast G r
   reads_last apart d m code =
       same ∙ ap (latest (submissions r) j) ((good d m).fits j).0 ∙ sym (last_written-named (submissions r) j (seen (completions r) d))
-      ∙ ap (last_written (submissions r) j) (sym (history-seen (completions r) d))
+      ∙ ap (last_written (submissions r) j) (sym (history_seen (completions r) d))
     where
       H : List ℕ → List ℕ
       H = G.setup.digest
@@ -72,8 +72,8 @@ module _ (G : Group) (started : Started G) (r : List Event) (run : Run G r) (rep
 
       same : value_found d.reply.found ≡ latest (submissions r) j t
       same =
-          same-value H started.set_up.wide (digested H r) apart (value_found d.reply.found) (latest (submissions r) j t) (found-digested H r d m)
-          (latest_within (digested H r) (submissions r) (written-digested G r does) j t) (reads_known G started r does replays d m code).last
+          same_value H started.set_up.wide (digested H r) apart (value_found d.reply.found) (latest (submissions r) j t) (found_digested H r d m)
+          (latest_within (digested H r) (submissions r) (written_digested G r does) j t) (reads_known G started r does replays d m code).last
 
   pub views_hold : Collision G r ⊎ (Ordered G r × ReadsLast G r)
   views_hold = go (collision_or_apart G r)

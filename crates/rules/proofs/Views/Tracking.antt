@@ -7,7 +7,7 @@ use Rattle.rules.specs.Running.{Running, link, from_reply, rise, rise_all, links
 use Rattle.rules.specs.Finish.{Completion}
 use Rattle.rules.specs.Shown.{◌∈◌, Each}
 use Rattle.rules.proofs.Lists.{cut, cut_here, in_left, in_right}
-use Rattle.rules.proofs.Slots.{slot-zeros}
+use Rattle.rules.proofs.Slots.{slot_zeros}
 use Rattle.rules.proofs.Fitting.{D, Fits, Tracks, fits_zeros, tracks_rise}
 use Rattle.rules.proofs.Views.Accepted.{Accepted, Chain}
 use Rattle.rules.proofs.Views.Names.{itself, onto}
@@ -53,7 +53,7 @@ module _ (p : Setup) (h : Completion → List ℕ) (S : List (List ℕ)) where
       go (inl (z, e)) = record {
         tracks = record {
           running =
-              ap (λ (u : List Slot). (slot u d.reply.committer).digest) z ∙ ap (λ (s : Slot). s.digest) (slot-zeros p.size d.reply.committer)
+              ap (λ (u : List Slot). (slot u d.reply.committer).digest) z ∙ ap (λ (s : Slot). s.digest) (slot_zeros p.size d.reply.committer)
               ∙ ap (D p.digest itself) (sym e);
           fits = subst₂ (Fits p.digest itself) (sym z) (sym e) (fits_zeros p.digest itself p.size);
           long = a.long;

@@ -80,10 +80,10 @@ begun_more : (subs : List Submission) (a : Submission) (i : ℕ) → begun_by i 
 begun_more subs a i = grind arith
 
 -- it changes nothing of those before it
-latest-old : (subs : List Submission) (a : Submission) (i t : ℕ) → Next subs a → t ≤ begun_by i subs → latest (a ∷ subs) i t ≡ latest subs i t
-latest-old subs a i zero next less = refl
-latest-old subs a i (suc t) next less =
-    ap₂ or_else (cond-false (same_operation (operation a.site a.timestamp) (operation i (suc t))) _ _ (grind arith)) (latest-old subs a i t next (omega arith))
+latest_old : (subs : List Submission) (a : Submission) (i t : ℕ) → Next subs a → t ≤ begun_by i subs → latest (a ∷ subs) i t ≡ latest subs i t
+latest_old subs a i zero next less = refl
+latest_old subs a i (suc t) next less =
+    ap₂ or_else (cond-false (same_operation (operation a.site a.timestamp) (operation i (suc t))) _ _ (grind arith)) (latest_old subs a i t next (omega arith))
 
 -- and what it wrote is then the last
 pub latest_new : (subs : List Submission) (a : Submission) → Next subs a
@@ -93,7 +93,7 @@ latest_new subs a next =
     let more : begun_by i (a ∷ subs) ≡ suc (begun_by i subs) = cond-true _ _ _ (eq-eqb i i refl) in
     ap (latest (a ∷ subs) i) more
     ∙ ap₂ or_else (cond-true (same_operation (operation i a.timestamp) (operation i (suc (begun_by i subs)))) _ _ (grind arith))
-    (latest-old subs a i (begun_by i subs) next (omega arith))
+    (latest_old subs a i (begun_by i subs) next (omega arith))
 
 -- the digest d is that of the value which the site i last wrote in its first t operations, which are begun
 pub record Known (H : List ℕ → List ℕ) (subs : List Submission) (i t : ℕ) (d : Option (List ℕ)) : Type 0 where
@@ -103,5 +103,5 @@ pub record Known (H : List ℕ → List ℕ) (subs : List Submission) (i t : ℕ
 pub known_more : (H : List ℕ → List ℕ) (subs : List Submission) (a : Submission) (i t : ℕ) (d : Option (List ℕ)) → Next subs a → Known H subs i t d → Known H (a ∷ subs) i t d
 known_more H subs a i t d next k = record {
   begun = let m = begun_more subs a i in omega (arith, k.begun);
-  last = k.last ∙ ap (option_map H) (sym (latest-old subs a i t next k.begun));
+  last = k.last ∙ ap (option_map H) (sym (latest_old subs a i t next k.begun));
 }

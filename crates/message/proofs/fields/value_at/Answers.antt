@@ -1,6 +1,6 @@
 use Rattle.std.proofs.Common.{length, refl, ap, ◌∙◌, arith}
 use Rattle.std.proofs.lemmas.List.{length-drop}
-use Rattle.message.proofs.Placing.{fits, value-absent, value_present}
+use Rattle.message.proofs.Placing.{fits, value_absent, value_present}
 use Rattle.message.proofs.fields.value_at.Goals as goal
 
 pub overflow_add-result : goal.overflow_add-result
@@ -8,7 +8,7 @@ overflow_add-result c = let f = fits 2 _ c.args.bytes.now _ c.args.at c.rest-fie
 
 pub returns-then-size-eq0 : goal.returns-then-size-eq0
 returns-then-size-eq0 c =
-    record { got = value-absent c.args.bytes.now _ _ c.args.at _ c.rest-field.ensures c.in_ok-size.ensures c.if-size-eq0.true; placed = tt }
+    record { got = value_absent c.args.bytes.now _ _ c.args.at _ c.rest-field.ensures c.in_ok-size.ensures c.if-size-eq0.true; placed = tt }
 
 pub overflow_add-offset : goal.overflow_add-offset
 overflow_add-offset c = let f = fits 2 _ c.args.bytes.now _ c.args.at c.rest-field.ensures c.in_ok-size.ensures in omega arith

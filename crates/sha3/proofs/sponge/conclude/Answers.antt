@@ -1,6 +1,6 @@
 use Rattle.std.proofs.Common.{◌≡◌, ℕ, ◌%◌, List, [], ◌++◌, length, sym, ap, ◌∙◌, append-nil, arith, lit<, length-append}
 use Rattle.digest.specs.Blocks.{absorbed, left, whole}
-use Rattle.digest.proofs.Blocks.{whole-first, whole_join}
+use Rattle.digest.proofs.Blocks.{whole_first, whole_join}
 use Rattle.sha3.specs.Sha3.{padding, squeezed, step}
 use Rattle.sha3.proofs.Padding.{padding-length, padding_mod}
 use Rattle.sha3.proofs.sponge.conclude.Goals as goal
@@ -8,7 +8,7 @@ use Rattle.sha3.proofs.sponge.conclude.Goals as goal
 -- a message of one block
 one_block : (s b : List ℕ) → length b ≡ 136 → step s b ≡ whole step 136 s b
 unfolding absorbed
-one_block s b l = sym (whole-first step 136 (lit< tt) s b [] l) ∙ ap (whole step 136 s) (append-nil b)
+one_block s b l = sym (whole_first step 136 (lit< tt) s b [] l) ∙ ap (whole step 136 s) (append-nil b)
 
 pub returns : goal.returns
 returns c =

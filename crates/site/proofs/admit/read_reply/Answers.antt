@@ -1,7 +1,7 @@
 use Rattle.std.proofs.Common.{◌≡◌, sym, rules}
 use denote.Enum.Bare.{same_true}
 use Rattle.message.specs.contracts.code.Code.{the_type}
-use Rattle.site.proofs.Admitting.{reply-read}
+use Rattle.site.proofs.Admitting.{reply_read}
 use Rattle.site.proofs.Reading.{well_read}
 use Rattle.site.proofs.admit.read_reply.Goals as goal
 
@@ -14,4 +14,4 @@ returns-then-eq c =
     let read = c.in-Ok.ensures.reads.1 in
     let well = well_read n g bs m (λ k. (c.type_inv.bytes k).fits) c.in-Ok.ensures.undoes read c.in-Ok.ensures.placed in
     let same : m.code ≡ c.args.code = same_true the_type (search rules) _ _ (sym c.if-eq.ensures) in
-    reply-read n g c.args.code bs m read same well.0 well.1
+    reply_read n g c.args.code bs m read same well.0 well.1

@@ -1,7 +1,7 @@
 use Rattle.std.proofs.Common.{length}
 use Rattle.std.proofs.lemmas.Result.{err_from_is_err_and}
 use Rattle.version.specs.Version.{slots}
-use Rattle.site.proofs.Reading.{found-read}
+use Rattle.site.proofs.Reading.{found_read}
 use Rattle.site.proofs.Verifying.{list_stops, own_member, own_below, found_stops, found_passes, none_passes}
 use Rattle.site.proofs.checks.verify.Goals as goal
 
@@ -37,7 +37,7 @@ rise-requires g c =
     record { member = own_member len H M i v r bs m signed follows (length v) c.requires.sizes w list c.requires.member; below = own_below len H M i v r bs m signed follows (length v) c.requires.sizes w list c.requires.below }
 
 pub check_found-requires : goal.check_found-requires
-check_found-requires g c = found-read g.S.Scheme.len c.args.bytes.now c.args.reply.now c.requires.read c.in-Some.found c.in-Some.is
+check_found-requires g c = found_read g.S.Scheme.len c.args.bytes.now c.args.reply.now c.requires.read c.in-Some.found c.in-Some.is
 
 pub returns-in_err-check_found : goal.returns-in_err-check_found
 returns-in_err-check_found g c =

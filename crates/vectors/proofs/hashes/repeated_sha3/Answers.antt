@@ -1,4 +1,4 @@
-use Rattle.std.proofs.Common.{◌≡◌, sym, ap, subst, add-one, arith}
+use Rattle.std.proofs.Common.{◌≡◌, sym, subst, add-one, arith}
 use Rattle.sha3.specs.Stream.{Took}
 use Rattle.vectors.specs.Hashes.{times}
 use Rattle.vectors.proofs.hashes.repeated_sha3.Goals as goal

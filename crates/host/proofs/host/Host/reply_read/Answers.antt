@@ -4,7 +4,7 @@ use Rattle.message.specs.Slots.{value_stored}
 use Rattle.store.specs.declared.slot.Slot.TheVariants.{Value, Version}
 use Rattle.host.specs.Says.{said, value_of}
 use Rattle.host.specs.State.{host_state}
-use Rattle.host.proofs.Replying.{version-said, value-said, found_is}
+use Rattle.host.proofs.Replying.{version_said, value_said, found_is}
 use Rattle.host.proofs.host.Host.reply_read.Goals as goal
 
 pub returns-then-site-register : goal.returns-then-site-register
@@ -14,7 +14,7 @@ returns-then-site-register t c =
     let v = value_stored c.args.new.now in
     found_is h.size h.signature (host_state h) m c.args.site c.args.register v c.args.out.now c.reply_found.new.out c.reply_found.result
     (said c.args.leader.now) c.args.proofs.now (said c.version_in-owner.result) v
-    (version-said h.size h.signature c.load-end.result c.load-end.new.room (m.slot Version c.args.register) (said c.version_in-owner.result) c.version_in-owner.ensures.says c.load-end.ensures.1)
+    (version_said h.size h.signature c.load-end.result c.load-end.new.room (m.slot Version c.args.register) (said c.version_in-owner.result) c.version_in-owner.ensures.says c.load-end.ensures.1)
     (sym (cond-true _ v (value_of h.signature m c.args.register) (eq-eqb c.args.site c.args.register c.if-site-register.true))) c.reply_found.ensures
 
 pub returns : goal.returns
@@ -25,7 +25,7 @@ returns t c =
     let u = value_stored c.value_in-value.result in
     found_is h.size h.signature (host_state h) m c.args.site c.args.register v c.args.out.now c.reply_found-2.new.out c.reply_found-2.result
     (said c.args.leader.now) c.args.proofs.now (said c.version_in-owner.result) u
-    (version-said h.size h.signature c.load-end.result c.load-end.new.room (m.slot Version c.args.register) (said c.version_in-owner.result) c.version_in-owner.ensures.says c.load-end.ensures.1)
-    (value-said h.signature c.load-value_end.result c.load-value_end.new.room (m.slot Value c.args.register) u c.value_in-value.ensures.says c.load-value_end.ensures.1
+    (version_said h.size h.signature c.load-end.result c.load-end.new.room (m.slot Version c.args.register) (said c.version_in-owner.result) c.version_in-owner.ensures.says c.load-end.ensures.1)
+    (value_said h.signature c.load-value_end.result c.load-value_end.new.room (m.slot Value c.args.register) u c.value_in-value.ensures.says c.load-value_end.ensures.1
     ∙ sym (cond-false _ v (value_of h.signature m c.args.register) (ne_eqb c.args.site c.args.register c.if-site-register.false)))
     c.reply_found-2.ensures

@@ -1,5 +1,5 @@
 use Rattle.std.proofs.Common.{◌%◌, ◌++◌, length, drop, ap, ◌∙◌, zero-add, arith, lit<, length-append}
-use Rattle.digest.proofs.Blocks.{holds_more, holds-part}
+use Rattle.digest.proofs.Blocks.{holds_more, holds_part}
 use Rattle.sha256.specs.Compression.{compressed}
 use Rattle.sha256.specs.Sha256.{Initial}
 use Rattle.sha256.proofs.hasher.Hasher.update.Goals as goal
@@ -9,7 +9,7 @@ returns-then-piece-used c bs h =
     let self = c.args.self.now in
     let x = c.args.piece.now in
     record {
-      holds = holds-part compressed 64 (lit< tt) Initial self.state self.block (self.len % 64) bs h.holds
+      holds = holds_part compressed 64 (lit< tt) Initial self.state self.block (self.len % 64) bs h.holds
           x c.put.new.block _ c.if-piece-used.true c.put.ensures (omega arith);
       count = omega (arith, h.count, length-append bs x);
     }

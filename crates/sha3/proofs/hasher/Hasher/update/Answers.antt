@@ -1,12 +1,12 @@
 use Rattle.std.proofs.Common.{◌≡◌, ℕ, ◌+◌, List, ◌++◌, length, drop, refl, ap, ◌∙◌, zero-add, lit<}
-use Rattle.digest.proofs.Blocks.{holds-part, holds_more}
+use Rattle.digest.proofs.Blocks.{holds_part, holds_more}
 use Rattle.sha3.specs.Sha3.{step, zeros}
 use Rattle.sha3.proofs.hasher.Hasher.update.Goals as goal
 
 pub returns-then-piece-used : goal.returns-then-piece-used
 returns-then-piece-used c bs h =
     let s = c.args.self.now in
-    holds-part step 136 (lit< tt) zeros s.state s.buffer s.used bs h
+    holds_part step 136 (lit< tt) zeros s.state s.buffer s.used bs h
     c.args.piece.now c.put.new.buffer _ c.if-piece-used.true c.put.ensures refl
 
 -- what is put at the front
