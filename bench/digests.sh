@@ -7,8 +7,7 @@ set -eu
 cd "$(dirname "$0")/.."
 out=target/bench
 mkdir -p "$out"
-rt staticlib capi >"$out/staticlib.log" 2>&1 || { cat "$out/staticlib.log"; exit 1; }
-kit=$(dirname "$(dirname "$(rt doc)")")
+sh tools/staticlib >"$out/staticlib.log" 2>&1 || { cat "$out/staticlib.log"; exit 1; }
 flags='' objects=''
 for file in plain_sha256 plain_keccak; do
     gcc -O3 -DSUFFIX=gcc -c "bench/$file.c" -o "$out/$file-gcc.o"
@@ -28,7 +27,7 @@ fi
 if nm target/staticlib/libcapi.a | grep -q ' T dilpako_sha3_256$'; then flags="$flags -DHAVE_SHA3"; fi
 # the words of flags, objects and libs are separate
 # shellcheck disable=SC2086
-gcc -O2 $flags bench/digests.c $objects target/staticlib/libcapi.a "$kit/lib/librattle_c.a" $libs -o "$out/digests"
+gcc -O2 $flags bench/digests.c $objects target/staticlib/libcapi.a $libs -o "$out/digests"
 gcc --version | head -n 1
 if command -v clang >/dev/null; then clang --version | head -n 1; fi
 grep -m 1 'model name' /proc/cpuinfo || true

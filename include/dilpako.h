@@ -1,4 +1,4 @@
-/* The proved digests, for C. Link target/staticlib/libcapi.a (rt staticlib capi) and the kit's lib/librattle_c.a. */
+/* The proved digests, for C. Link target/staticlib/libcapi.a, which tools/staticlib makes. */
 #ifndef DILPAKO_H
 #define DILPAKO_H
 
