@@ -28,6 +28,7 @@ GIVEN = {
     "oneRound": "one_round",
     "fourAt": "four_at",
     "lF": "length_F",
+    "getD-zeros": "get_or_zeros",
     "take-submit": "take_submit",
     "take-commit": "take_commit",
 }

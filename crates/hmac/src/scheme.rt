@@ -5,7 +5,7 @@ ghost use Rattle.signature.specs.Calls.{Signs};
 ghost use Rattle.signature.specs.Meaning.{Site};
 ghost use Rattle.hmac.specs.Calls.{site_keys, Macs};
 ghost use Rattle.hmac.specs.Keys.{mac, meaning};
-ghost use Rattle.hmac.specs.Macs as ProofsMacs;
+ghost use Rattle.hmac.specs.Macs as MacLaws;
 ghost use Rattle.std.proofs.Common.{rules};
 
 use super::equal::equal;
@@ -53,7 +53,7 @@ impl Scheme for Hmac {
 
     ghost high = { Prim.search rules };
 
-    ghost fits = { λ x s t g h. ProofsMacs.fits (site_keys x) s t g h };
+    ghost fits = { λ x s t g h. MacLaws.fits (site_keys x) s t g h };
 
     fn size() -> usize {
         Self::G

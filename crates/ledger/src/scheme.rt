@@ -4,7 +4,7 @@ ghost use Rattle.signature.specs.Calls.{Signs};
 ghost use Rattle.ledger.specs.Calls.{entries, Enters};
 ghost use Rattle.ledger.specs.Entries.{meaning};
 ghost use Rattle.ledger.specs.Named;
-ghost use Rattle.std.proofs.Common.{rules, arith};
+ghost use Rattle.std.proofs.Common.{rules};
 
 use super::entry::Entry;
 use super::ledger::Ledger;
@@ -18,9 +18,9 @@ impl Scheme for Ledger {
 
     ghost means = { λ l. meaning (entries l) };
 
-    ghost low = { first_of (Prim.search rules, Prim.grind (arith, Self.row.coded.inj)) };
+    ghost low = { Prim.search rules };
 
-    ghost high = { first_of (Prim.search rules, Prim.grind (arith, Self.row.coded.inj)) };
+    ghost high = { Prim.search rules };
 
     ghost fits = { λ x s t g h. Named.fits x.entries.items s t g h };
 

@@ -28,14 +28,14 @@ slot_set_other v zero j s n = refl
 slot_set_other v (suc k) zero s n = refl
 slot_set_other v (suc k) (suc j) s n = get_or-set_other v k j s unseen (λ e. n (ap suc (sym e)))
 
-get_D_zeros : (n j : ℕ) → get_or (replicate n unseen) j unseen ≡ unseen
-get_D_zeros zero j = refl
-get_D_zeros (suc n) zero = refl
-get_D_zeros (suc n) (suc j) = get_D_zeros n j
+get_or_zeros : (n j : ℕ) → get_or (replicate n unseen) j unseen ≡ unseen
+get_or_zeros zero j = refl
+get_or_zeros (suc n) zero = refl
+get_or_zeros (suc n) (suc j) = get_or_zeros n j
 
 pub slot_zeros : (n i : ℕ) → slot (zeros n) i ≡ unseen
 slot_zeros n zero = refl
-slot_zeros n (suc j) = get_D_zeros n j
+slot_zeros n (suc j) = get_or_zeros n j
 
 pub length-zeros : (n : ℕ) → length (zeros n) ≡ n
 length-zeros n = length-replicate n unseen

@@ -12,13 +12,13 @@ use Rattle.store.specs.Shape.{Short}
 use Rattle.store.specs.Table.{held_in}
 
 -- zeros
-pub get_D_zeros : (n k : ℕ) → slice_index_or {A = ℕ} (replicate n 0) k 0 ≡ 0
-get_D_zeros zero k = refl
-get_D_zeros (suc n) zero = refl
-get_D_zeros (suc n) (suc k) = get_D_zeros n k
+pub get_or_zeros : (n k : ℕ) → slice_index_or {A = ℕ} (replicate n 0) k 0 ≡ 0
+get_or_zeros zero k = refl
+get_or_zeros (suc n) zero = refl
+get_or_zeros (suc n) (suc k) = get_or_zeros n k
 
 pub zeros_bytes : (n : ℕ) (xs : List ℕ) → xs ≡ replicate n 0 → Bytes xs
-zeros_bytes n xs e k = rw (e, get_D_zeros n k) (omega arith)
+zeros_bytes n xs e k = rw (e, get_or_zeros n k) (omega arith)
 
 -- places of one length
 pub same_short : (n l : ℕ) → l ≤ max_slot → Short (replicate n l)

@@ -8,13 +8,13 @@ use Rattle.store.specs.declared.table.Table.{Table}
 use Rattle.store.specs.Limits.{max_slot}
 use Rattle.store.specs.Meaning.{Sound}
 use Rattle.store.specs.Table.{place_of, slot_in, table_meaning}
-use Rattle.store.specs.Places.{get_D_zeros, bytes_drop, bytes_take}
+use Rattle.store.specs.Places.{get_or_zeros, bytes_drop, bytes_take}
 
 -- where every length is 0, every slot is empty
 pub slots_empty : (n : ℕ) (xs : List ℕ) (s : Slot) (i : ℕ) → slot_in (replicate n 0) xs s i ≡ []
 unfolding slot_in
 slots_empty n xs s zero = refl
-slots_empty n xs s (suc k) = rw (get_D_zeros n (place_of s k))
+slots_empty n xs s (suc k) = rw (get_or_zeros n (place_of s k))
 
 pub table_sound : (t : Table) → Sound (table_meaning t)
 unfolding slot_in
