@@ -1,9 +1,14 @@
 -- Digits one by one, and the text of bytes two digits at a time.
-use Rattle.std.proofs.Common.{◌≡◌, ℕ, zero, suc, ◌+◌, ◌*◌, ◌/◌, ◌%◌, ◌<◌, ◌≤◌, true, false, ltb, ◌⊎◌, List, [], ◌∷◌, ◌++◌, length, get_or, take, None, sym, refl, ap, ◌∙◌, ⊎_elim, arith}
-use Rattle.std.proofs.lemmas.List.{append_assoc, take_more, take_all}
+use Rattle.std.proofs.Common.{◌≡◌, ℕ, zero, suc, ◌+◌, ◌*◌, ◌/◌, ◌%◌, ◌^◌, ◌-◌, ◌<◌, ◌≤◌, true, false, ltb, ◌⊎◌, List, [], ◌∷◌, ◌++◌, length, get_or, take, drop, Some, None, Option, sym, refl, ap, ◌∙◌, ⊎_elim, arith}
+use Rattle.std.proofs.lemmas.List.{append_assoc, take_more, take_all, get_or-take, get_or-drop, length-drop}
+use Rattle.std.proofs.lemmas.Slice.Eq.{bytes_eq-Decides}
+use Rattle.std.proofs.lemmas.Fmt.{hex_byte}
+use Rattle.std.specs.Fmt.{padded_integral, format_spec, digits as spelled_in}
+use Rattle.std.specs.Simd.{first_chunks}
+use Rattle.std.specs.Str.{bytes_eq}
 use Rattle.std.proofs.lemmas.Bool.{cases_lt}
 use Rattle.octets.specs.Numbers.{Bytes}
-use Rattle.hex_text.specs.Hex.{digit, digits, text_of, Value}
+use Rattle.hex_text.specs.Hex.{digit, digits, text_of, Value, Spelled}
 
 pub digit_low : (n : ℕ) → n < 10 → digit n ≡ 48 + n
 unfolding digit
@@ -40,15 +45,11 @@ digits_at (b ∷ bs) (suc k) h =
     (rw e n.0, rw f n.1)
 
 -- one byte more was read
-pub digits_more : (text items : List ℕ) (k high low : ℕ) → 2 * k + 1 < length text → digits items ≡ take (2 * k) text
-    → high < 16 → digit high ≡ get_or text (2 * k) 0 → low < 16 → digit low ≡ get_or text (2 * k + 1) 0
-    → digits (items ++ (high * 16 + low) ∷ []) ≡ take (2 * (k + 1)) text
-digits_more text items k high low l e h p g q =
-    let a : (high * 16 + low) / 16 ≡ high = omega arith in
-    let b : (high * 16 + low) % 16 ≡ low = omega arith in
+pub digits_more : (text items : List ℕ) (k b : ℕ) → 2 * k + 1 < length text → digits items ≡ take (2 * k) text → Spelled (get_or text (2 * k) 0) (get_or text (2 * k + 1) 0) (Some b) → digits (items ++ b ∷ []) ≡ take (2 * (k + 1)) text
+digits_more text items k b l e s =
     let n : 2 * (k + 1) ≡ 2 * k + 1 + 1 = omega arith in
-    digits_push items (high * 16 + low)
-    ∙ rw (a, b, e, p, q, n, take_more text (2 * k + 1) 0 l, take_more text (2 * k) 0 (omega arith))
+    digits_push items b
+    ∙ rw (e, s.1, s.2, n, take_more text (2 * k + 1) 0 l, take_more text (2 * k) 0 (omega arith))
     (sym (append_assoc (take (2 * k) text) (get_or text (2 * k) 0 ∷ []) (get_or text (2 * k + 1) 0 ∷ [])))
 
 -- a text of more than one character that spells bytes has two digits for each
@@ -64,19 +65,35 @@ module _ (text : List ℕ) (k : ℕ) (l : 2 * k + 1 < length text) (bs : List �
   within : k < length bs
   within = let n = digits-length bs in let m = ap length in_digits in omega arith
 
-  pub no_high : Value (get_or text (2 * k) 0) None → ⊥
-  no_high v = let b = h k in v (get_or bs k 0 / 16) (omega arith) (sym (digits_at bs k within).0 ∙ ap (λ t. get_or t (2 * k) 0) in_digits)
+  pub no_byte : Spelled (get_or text (2 * k) 0) (get_or text (2 * k + 1) 0) None → ⊥
+  no_byte v = let d = digits_at bs k within in v (get_or bs k 0) (h k) (sym d.0 ∙ ap (λ t. get_or t (2 * k) 0) in_digits) (sym d.1 ∙ ap (λ t. get_or t (2 * k + 1) 0) in_digits)
 
-  pub no_low : Value (get_or text (2 * k + 1) 0) None → ⊥
-  no_low v = v (get_or bs k 0 % 16) (omega arith) (sym (digits_at bs k within).1 ∙ ap (λ t. get_or t (2 * k + 1) 0) in_digits)
-
--- a text of an odd number of characters spells nothing, unless it is the full stop
-pub no_odd : (text : List ℕ) → (text ≡ 46 ∷ [] → ⊥) → (length text ≡ 0) ⊎ (length text % 2 ≡ 0 → ⊥) → (bs : List ℕ) → text_of bs ≡ text → ⊥
-no_odd text stop odd [] e = stop (sym e)
-no_odd text stop odd (b ∷ bs) e =
+-- a text of no pair, or of one character more than pairs, spells nothing, unless it is the full stop
+pub no_pairs : (text : List ℕ) → (text ≡ 46 ∷ [] → ⊥) → (length text / 2 ≡ 0) ⊎ (length text % 2 ≡ 0 → ⊥) → (bs : List ℕ) → text_of bs ≡ text → ⊥
+no_pairs text stop odd [] e = stop (sym e)
+no_pairs text stop odd (b ∷ bs) e =
     let n = ap length e in
     let m = digits-length bs in
-    ⊎_elim (λ (z : length text ≡ 0). omega arith) (λ (o : length text % 2 ≡ 0 → ⊥). o (omega arith)) odd
+    ⊎_elim (λ (z : length text / 2 ≡ 0). omega arith) (λ (o : length text % 2 ≡ 0 → ⊥). o (omega arith)) odd
+
+pub no_stop : (text stop : List ℕ) → stop ≡ 46 ∷ [] → false ≡ bytes_eq text stop → text ≡ 46 ∷ [] → ⊥
+no_stop text stop s e t = let y = (bytes_eq-Decides text stop).1 (t ∙ sym s) in cc
+
+-- the pairs of a text
+pairs_at : (k i : ℕ) (xs : List ℕ) → i < k → 2 * k ≤ length xs
+    → (get_or (get_or (first_chunks 2 k xs) i []) 0 0 ≡ get_or xs (2 * i) 0) × (get_or (get_or (first_chunks 2 k xs) i []) 1 0 ≡ get_or xs (2 * i + 1) 0)
+pairs_at zero i xs h l = absurd (omega arith)
+pairs_at (suc k) zero xs h l = (get_or-take 2 xs 0 0 (omega arith), get_or-take 2 xs 1 0 (omega arith))
+pairs_at (suc k) (suc i) xs h l =
+    let n = length-drop 2 xs in
+    let p = pairs_at k i (drop 2 xs) (omega arith) (omega arith) in
+    let e : 2 * suc i ≡ 2 + 2 * i = omega arith in
+    let f : 2 * suc i + 1 ≡ 2 + (2 * i + 1) = omega arith in
+    (p.0 ∙ get_or-drop 2 xs (2 * i) 0 ∙ ap (λ j. get_or xs j 0) (sym e), p.1 ∙ get_or-drop 2 xs (2 * i + 1) 0 ∙ ap (λ j. get_or xs j 0) (sym f))
+
+pub pair_spelled : (text : List ℕ) (pairs : List (List ℕ)) (i : ℕ) (r : Option ℕ) → pairs ≡ first_chunks 2 (length text / 2) text → i < length text / 2
+    → Spelled (get_or (get_or pairs i []) 0 0) (get_or (get_or pairs i []) 1 0) r → Spelled (get_or text (2 * i) 0) (get_or text (2 * i + 1) 0) r
+pair_spelled text pairs i r e h s = let p = pairs_at (length text / 2) i text h (omega arith) in rw (e, p.0, p.1) at s
 
 -- all bytes were read
 pub digits_all : (text items : List ℕ) (k : ℕ) → length text ≤ 2 * k → 1 < length text → digits items ≡ take (2 * k) text → text_of items ≡ text
@@ -84,11 +101,13 @@ digits_all text [] k l m e = let n = ap length (e ∙ take_all (2 * k) text l) i
 digits_all text (b ∷ bs) k l m e = e ∙ take_all (2 * k) text l
 
 -- one byte more was written
-pub text_more : (bs text mid text' : List ℕ) (k high low : ℕ) → k < length bs → text ≡ digits (take k bs)
-    → high ≡ digit (get_or bs k 0 / 16) → low ≡ digit (get_or bs k 0 % 16) → mid ≡ text ++ high ∷ [] → text' ≡ mid ++ low ∷ [] → text' ≡ digits (take (k + 1) bs)
-text_more bs text mid text' k high low l e h g p q =
-    let b : ℕ = get_or bs k 0 in
-    q ∙ rw (p, e, h, g, take_more bs k 0 l) (append_assoc (digits (take k bs)) (digit (b / 16) ∷ []) (digit (b % 16) ∷ []) ∙ sym (digits_push (take k bs) b))
+pub text_more : (bs text text' : List ℕ) (k : ℕ) → k < length bs → text ≡ digits (take k bs) → text' ≡ text ++ digit (get_or bs k 0 / 16) ∷ digit (get_or bs k 0 % 16) ∷ [] → text' ≡ digits (take (k + 1) bs)
+text_more bs text text' k l e p = p ∙ rw (e, take_more bs k 0 l) (sym (digits_push (take k bs) (get_or bs k 0)))
+
+-- a byte as `{:02x}` writes it
+pub written : (b : ℕ) → b < 256 → padded_integral (format_spec 32 0 4 2 (2 ^ 64 - 1)) false [] (spelled_in 16 false b) ≡ digit (b / 16) ∷ digit (b % 16) ∷ []
+unfolding digit
+written b h = hex_byte false b h
 
 -- all bytes were written
 pub text_all : (bs text : List ℕ) (k : ℕ) → length bs ≤ k → (length bs ≡ 0 → ⊥) → text ≡ digits (take k bs) → text ≡ text_of bs

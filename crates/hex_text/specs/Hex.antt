@@ -21,6 +21,11 @@ abbrev pub Value : ℕ → Option ℕ → Type 0
 Value c (Some n) = (n < 16) × (digit n ≡ c)
 Value c None = (n : ℕ) → n < 16 → digit n ≢ c
 
+-- the byte that two digits spell
+abbrev pub Spelled : ℕ → ℕ → Option ℕ → Type 0
+Spelled high low (Some b) = (b < 256) × (digit (b / 16) ≡ high) × (digit (b % 16) ≡ low)
+Spelled high low None = (b : ℕ) → b < 256 → digit (b / 16) ≡ high → digit (b % 16) ≢ low
+
 -- the bytes that a text spells, or none where it spells none; want of memory is an error
 abbrev pub Decodes : List ℕ → Result (Option (Vec ℕ Global)) AllocError → Type 0
 Decodes text (Ok (Some v)) = text_of (vec_items v) ≡ text

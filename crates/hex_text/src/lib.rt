@@ -2,10 +2,10 @@
 #![tactic(auto)]
 
 ghost use Rattle.std.specs.Prelude.{◌≡◌, ℕ, ◌<◌, IfOk, string_bytes};
-ghost use Rattle.hex_text.specs.Hex.{digit as digit_of, text_of, Value, Decodes};
+ghost use Rattle.hex_text.specs.Hex.{text_of, Value, Spelled, Decodes};
 
-use octets::same;
 use std::alloc::{AllocError, Global};
+use std::fmt::Write;
 
 /// The text of `bytes`.
 pub fn encode(heap: Global, bytes: &[u8]) -> Result<String, AllocError>
@@ -16,8 +16,7 @@ pub fn encode(heap: Global, bytes: &[u8]) -> Result<String, AllocError>
     }
     let mut text = String::new(heap);
     for b in bytes {
-        text.push(digit(*b / 16))?;
-        text.push(digit(*b % 16))?;
+        write!(text, "{b:02x}")?;
     }
     Ok(text)
 }
@@ -27,39 +26,34 @@ pub fn decode(heap: Global, text: &[u8]) -> Result<Option<Vec<u8>>, AllocError>
     ensures { Decodes text.now result }
 {
     let mut bytes = Vec::new(heap);
-    if same(text, b".") {
+    if text == b".".as_slice() {
         return Ok(Some(bytes));
     }
-    if text.is_empty() || text.len() % 2 != 0 {
+    let (pairs, rest) = text.as_chunks::<2>();
+    if pairs.is_empty() || !rest.is_empty() {
         return Ok(None);
     }
-    for k in 0..text.len() / 2 {
-        let Some(high) = value(text[2 * k]) else {
+    for [high, low] in pairs {
+        let Some(byte) = byte(*high, *low) else {
             return Ok(None);
         };
-        let Some(low) = value(text[2 * k + 1]) else {
-            return Ok(None);
-        };
-        bytes.push(high * 16 + low)?;
+        bytes.push(byte)?;
     }
     Ok(Some(bytes))
 }
 
-fn digit(n: u8) -> char
-    requires { n < 16 }
-    ensures value { result ≡ digit_of n }
-    ensures ascii { result < 128 }
+// The byte that two digits spell.
+fn byte(high: u8, low: u8) -> Option<u8>
+    ensures { Spelled high low result }
 {
-    if n < 10 {
-        (b'0' + n) as char
-    } else {
-        (b'a' - 10 + n) as char
-    }
+    Some(value(high)? * 16 + value(low)?)
 }
 
+#[tactic(auto, using(crate::proofs::Digits::no_value, crate::proofs::Digits::digit_low, crate::proofs::Digits::digit_high))]
 fn value(c: u8) -> Option<u8>
     ensures { Value c result }
 {
+    // Kept: `char::to_digit` reads upper-case letters too, which spell nothing here.
     match c {
         b'0'..=b'9' => Some(c - b'0'),
         b'a'..=b'f' => Some(c - b'a' + 10),

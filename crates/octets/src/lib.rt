@@ -5,9 +5,10 @@
 
 #![tactic(auto)]
 
-ghost use Rattle.std.specs.Prelude.{◌≡◌, ℕ, List, [], ◌∷◌, Decides};
+ghost use Rattle.std.specs.Prelude.{◌≡◌, ℕ, ◌≤◌};
+ghost use Rattle.std.proofs.Common.{rules};
 ghost use Rattle.octets.specs.Field.{numeral, span};
-ghost use Rattle.octets.specs.Numbers.{big_endian};
+ghost use Rattle.octets.specs.Numbers.{big_endian, number};
 ghost use Rattle.octets.specs.Puts.{PutsOrNot};
 ghost use Rattle.octets.specs.Reads.{Gets};
 
@@ -19,33 +20,83 @@ pub struct BadField {
     pub left: usize,
 }
 
-/// A number of one byte, and the rest.
-pub fn take_u8(bytes: &[u8]) -> Result<(u8, &[u8]), BadField>
-    ensures { Gets (numeral 1) (λ n. n) bytes.now result }
-{
-    match bytes {
-        [b, rest @ ..] => Ok((*b, rest)),
-        [] => Err(BadField { left: bytes.len() }),
+/// An unsigned number that has `N` bytes.
+pub trait Number<const N: usize>: Copy {
+    /// The number that a value stands for.
+    ghost value: { Self → ℕ };
+
+    /// The number that the bytes spell, highest first.
+    fn from_bytes(bytes: [u8; N]) -> Self
+        ensures { value result ≡ number bytes.entry };
+
+    /// The bytes of the number, highest first.
+    fn to_bytes(self) -> [u8; N]
+        ensures { result ≡ big_endian N (value self) };
+
+    ghost few: { N ≤ 16 };
+}
+
+impl Number<1> for u8 {
+    ghost value = { λ n. n };
+
+    ghost few = { Prim.search rules };
+
+    fn from_bytes(bytes: [u8; 1]) -> u8
+        ensures { result ≡ number bytes }
+    {
+        u8::from_be_bytes(bytes)
+    }
+
+    fn to_bytes(self) -> [u8; 1]
+        ensures { result ≡ big_endian 1 self }
+    {
+        u8::to_be_bytes(self)
     }
 }
 
-/// A number of two bytes, highest first, and the rest.
-pub fn take_u16(bytes: &[u8]) -> Result<(u16, &[u8]), BadField>
-    ensures { Gets (numeral 2) (λ n. n) bytes.now result }
-{
-    match bytes {
-        [a, b, rest @ ..] => Ok((u16::from_be_bytes([*a, *b]), rest)),
-        _ => Err(BadField { left: bytes.len() }),
+impl Number<2> for u16 {
+    ghost value = { λ n. n };
+
+    ghost few = { Prim.search rules };
+
+    fn from_bytes(bytes: [u8; 2]) -> u16
+        ensures { result ≡ number bytes }
+    {
+        u16::from_be_bytes(bytes)
+    }
+
+    fn to_bytes(self) -> [u8; 2]
+        ensures { result ≡ big_endian 2 self }
+    {
+        u16::to_be_bytes(self)
     }
 }
 
-/// A number of four bytes, highest first, and the rest.
-pub fn take_u32(bytes: &[u8]) -> Result<(u32, &[u8]), BadField>
-    ensures { Gets (numeral 4) (λ n. n) bytes.now result }
+impl Number<4> for u32 {
+    ghost value = { λ n. n };
+
+    ghost few = { Prim.search rules };
+
+    fn from_bytes(bytes: [u8; 4]) -> u32
+        ensures { result ≡ number bytes }
+    {
+        u32::from_be_bytes(bytes)
+    }
+
+    fn to_bytes(self) -> [u8; 4]
+        ensures { result ≡ big_endian 4 self }
+    {
+        u32::to_be_bytes(self)
+    }
+}
+
+/// A number of `N` bytes, highest first, and the rest.
+pub fn take_number<const N: usize, T: Number<N>>(bytes: &[u8]) -> Result<(T, &[u8]), BadField>
+    ensures { Gets (numeral N) T.value bytes.now result }
 {
-    match bytes {
-        [a, b, c, d, rest @ ..] => Ok((u32::from_be_bytes([*a, *b, *c, *d]), rest)),
-        _ => Err(BadField { left: bytes.len() }),
+    match bytes.split_first_chunk::<N>() {
+        Some((front, rest)) => Ok((T::from_bytes(*front), rest)),
+        None => Err(BadField { left: bytes.len() }),
     }
 }
 
@@ -71,32 +122,9 @@ pub fn put(out: &mut [u8], start: usize, part: &[u8]) -> Option<usize>
     Some(end)
 }
 
-/// Puts a number of one byte.
-pub fn put_u8(out: &mut [u8], start: usize, n: u8) -> Option<usize>
-    ensures { PutsOrNot (big_endian 1 n) start out.old out.new result }
+/// Puts a number of `N` bytes, highest first.
+pub fn put_number<const N: usize, T: Number<N>>(out: &mut [u8], start: usize, n: T) -> Option<usize>
+    ensures { PutsOrNot (big_endian N (T.value n)) start out.old out.new result }
 {
-    put(out, start, &[n])
-}
-
-/// Puts a number of two bytes, highest first.
-pub fn put_u16(out: &mut [u8], start: usize, n: u16) -> Option<usize>
-    ensures { PutsOrNot (big_endian 2 n) start out.old out.new result }
-{
-    let two = n.to_be_bytes();
-    put(out, start, &two)
-}
-
-/// Puts a number of four bytes, highest first.
-pub fn put_u32(out: &mut [u8], start: usize, n: u32) -> Option<usize>
-    ensures { PutsOrNot (big_endian 4 n) start out.old out.new result }
-{
-    let four = n.to_be_bytes();
-    put(out, start, &four)
-}
-
-/// Whether two slices hold the same bytes.
-pub fn same(a: &[u8], b: &[u8]) -> bool
-    ensures { Decides result (a.now ≡ b.now) }
-{
-    a == b
+    put(out, start, &n.to_bytes())
 }

@@ -1,15 +1,13 @@
-use Rattle.std.proofs.Common.{◌++◌, string_bytes, ap, ◌∙◌, arith}
-use Rattle.hex_text.proofs.Digits.{text_more, text_all}
+use Rattle.std.proofs.Common.{◌<◌, ◌∙◌, get_or, string_bytes, ap, ◌++◌, arith}
+use Rattle.hex_text.proofs.Digits.{text_more, text_all, written}
 use Rattle.hex_text.proofs.encode.Goals as goal
 
 pub loop-b-preserved : goal.loop-b-preserved
 loop-b-preserved c =
-    let high = c.in_ok-push.ensures in
-    let low = c.in_ok-push-2.ensures in
-    let p = high.bytes ∙ ap (λ e. string_bytes c.loop-b.text ++ e) (high.ascii c.digit.ensures.ascii) in
-    let q = low.bytes ∙ ap (λ e. string_bytes c.push.new.self ++ e) (low.ascii c.digit-in-loop-b.ensures.ascii) in
-    text_more c.args.bytes.now (string_bytes c.loop-b.text) (string_bytes c.push.new.self) _ c.loop-b.b-index _ _ c.loop-b-test.true c.loop-b.invariant
-    c.digit.ensures.value c.digit-in-loop-b.ensures.value p q
+    let b = get_or c.args.bytes.now c.loop-b.b-index 0 in
+    let small : b < 256 = (c.type_inv.bytes c.loop-b.b-index).fits in
+    let w = rw (c.in_radix.ensures, c.laid_out.ensures) at c.in_ok-write.ensures.bytes in
+    text_more c.args.bytes.now (string_bytes c.loop-b.text) _ c.loop-b.b-index c.loop-b-test.true c.loop-b.invariant (w ∙ ap (λ bs. string_bytes c.loop-b.text ++ bs) (written b small))
 
 pub returns : goal.returns
 returns c =
