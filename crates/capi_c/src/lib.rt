@@ -1,4 +1,5 @@
 //! The digests for callers in C, by the header include/dilpako.h. A `&[u8]` is passed as a pointer and then a length.
+// Kept: each function of `capi` once more, since the C interface exports names, and a static library is no dependency of a crate.
 #![tactic(auto)]
 
 ghost use Rattle.std.specs.Prelude.{◌≡◌, List, [], ◌++◌, ℕ};

@@ -1,5 +1,5 @@
 -- Laws of a message that is taken block by block, for any state, step and block size.
-use Rattle.std.proofs.Common.{◌≡◌, ℕ, zero, suc, ◌+◌, ◌-◌, ◌*◌, ◌/◌, ◌%◌, ◌<◌, ◌≤◌, List, ◌++◌, length, get_or, take, drop, sym, refl, ap, ◌∙◌, append_assoc, append-nil, add-zero, add-suc, mod-lt, mul_comm, add-mul, add_comm, one-mul, mul-zero, div-add-mod', zero-mul, mul-one, mul-suc, mul-add, add-one, arith, length-append, take-append-drop}
+use Rattle.std.proofs.Common.{◌≡◌, ℕ, zero, suc, ◌+◌, ◌-◌, ◌*◌, ◌/◌, ◌%◌, ◌<◌, ◌≤◌, List, ◌++◌, length, get_or, take, drop, sym, refl, ap, ◌∙◌, append_assoc, append-nil, add-zero, add-suc, mod-lt, mul_comm, add-mul, add_comm, one-mul, mul-zero, div-add-mod', zero-mul, mul-one, mul-suc, mul-add, add-one, arith, length-append, take-append-drop, get_or-drop, get_or-take}
 use native.Mathlib.Nat.{add-div_left, div-eq_of_lt, div_self, mul-add-div_right}
 use lib.Seq.{drop-append-add}
 use Rattle.std.proofs.lemmas.List.{take-append-le, drop-append-le, drop_all, drop-drop, length-drop, length-take-le, take_all, take_at}
@@ -55,6 +55,11 @@ get_D_chunked size (suc k) zero bs d h = ap (λ z. take size (drop z bs)) (sym (
 get_D_chunked size (suc k) (suc i) bs d h =
     let n : size + size * i ≡ size * suc i = add_comm size (size * i) ∙ sym (mul-suc size i) in
     get_D_chunked size k i (drop size bs) d (omega arith) ∙ ap (take size) (drop-drop (size * i) size bs ∙ ap (λ z. drop z bs) n)
+
+-- and its byte k
+pub byte_chunked : (size count i k : ℕ) (bs d : List ℕ) → i < count → k < size → get_or (get_or (first_chunks size count bs) i d) k 0 ≡ get_or bs (size * i + k) 0
+byte_chunked size count i k bs d h l =
+    ap (λ z. get_or z k 0) (get_D_chunked size count i bs d h) ∙ get_or-take size (drop (size * i) bs) k 0 l ∙ get_or-drop (size * i) bs k 0
 
 module _ {S : Type 0} (step : S → List ℕ → S) (size : ℕ) where
   -- one block more

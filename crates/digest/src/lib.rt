@@ -1,7 +1,13 @@
-//! What a digest is, and the laws of hash functions that take their message block by block.
+//! What a digest is, and what hash functions share that take their message block by block or piece by piece.
 #![tactic(auto)]
 
 ghost use Rattle.std.specs.Prelude.{◌≡◌, ℕ, ◌<◌, List, length, slice_index};
+
+mod block_hash;
+mod streaming;
+
+pub use block_hash::{BlockHash, absorb, fill};
+pub use streaming::{Streaming, pair};
 
 /// The number of bytes of a digest. The laws of [`Digest`] have it as 32.
 pub const LEN: usize = 32;

@@ -39,10 +39,7 @@ impl Digest for Sha256 {
 pub fn pair(front: &[u8], back: &[u8]) -> [u8; LEN]
     ensures { result ≡ sha256 (front.now ++ back.now) }
 {
-    let mut hasher = Hasher::new();
-    hasher.update(front);
-    hasher.update(back);
-    hasher.finalize()
+    digest::pair::<Hasher>(front, back)
 }
 
 /// Does nothing. Its contract is that the definition of SHA-256, which the other contracts cite, gives the published digests.

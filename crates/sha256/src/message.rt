@@ -1,11 +1,14 @@
 //! A message: its whole blocks, and the last ones with the padding (FIPS 180-4, sections 5.1.1 and 6.2).
 
-ghost use Rattle.std.specs.Prelude.{◌≡◌, ◌+◌, ◌*◌, ◌/◌, ◌%◌, ◌<◌, ◌≤◌, ◌++◌, length, take, drop};
-ghost use Rattle.digest.specs.Blocks.{left, whole};
+ghost use Rattle.std.specs.Prelude.{◌≡◌, ◌%◌, ◌<◌, ◌++◌, length};
+ghost use Rattle.digest.specs.Blocks.{whole};
 ghost use Rattle.sha256.specs.Compression.{compressed};
 ghost use Rattle.sha256.specs.Sha256.{output, padding};
+ghost use Rattle.std.proofs.Common.{lit<};
 
+use crate::Sha256;
 use crate::compression::{State, compress};
+use digest::{BlockHash, absorb};
 
 /// The hash value that a message begins with (FIPS 180-4, section 5.3.3).
 pub(crate) const START: State = State {
@@ -19,26 +22,18 @@ pub(crate) const START: State = State {
     h: 0x5be0cd19,
 };
 
-/// Takes the whole blocks of `bytes` where they stand, and gives the bytes after them.
-pub(crate) fn absorb(s: State, bytes: &[u8]) -> (State, &[u8])
-    ensures state { result.0 ≡ whole compressed 64 s bytes.now }
-    ensures rest { result.1.now ≡ left 64 bytes.now }
-    ensures len { length result.1.now ≡ length bytes.now % 64 }
-{
-    let (blocks, rest) = bytes.as_chunks::<64>();
-    let mut r = s;
-    for block in blocks {
-        r = compress(r, block);
-    }
-    (r, rest)
-}
+impl BlockHash<64> for Sha256 {
+    type State = State;
 
-/// Writes `part` over the bytes of `block` from `at` on.
-pub(crate) fn put(block: &mut [u8], at: usize, part: &[u8])
-    requires { at + length part.now ≤ length block.old }
-    ensures { block.new ≡ take at block.old ++ (part.now ++ drop (at + length part.now) block.old) }
-{
-    block[at..at + part.len()].copy_from_slice(part);
+    ghost step = { compressed };
+
+    ghost nonempty = { lit< tt };
+
+    ghost fits = { lit< tt };
+
+    fn compress(state: &mut State, block: &[u8; 64]) {
+        *state = compress(*state, block);
+    }
 }
 
 /// The hash value after `rest`, the last bytes of a message of `n` bytes, and the padding.
@@ -50,21 +45,21 @@ fn finish(s: State, rest: &[u8], n: u64) -> State
     let k = rest.len();
     let end = 64 * ((k + 8) / 64 + 1);
     let mut tail = [0u8; 128];
-    put(&mut tail, 0, rest);
+    tail[..k].copy_from_slice(rest);
     tail[k] = 0x80;
-    put(&mut tail, end - 8, &n.wrapping_mul(8).to_be_bytes());
-    absorb(s, &tail[0..end]).0
+    tail[end - 8..end].copy_from_slice(&n.wrapping_mul(8).to_be_bytes());
+    let mut state = s;
+    absorb::<Sha256, 64>(&mut state, &tail[..end]);
+    state
 }
 
 /// The bytes of a hash value.
 fn output_bytes(s: State) -> [u8; 32]
     ensures { result ≡ output s }
 {
-    let words = [s.a, s.b, s.c, s.d, s.e, s.f, s.g, s.h];
+    let words = [s.a, s.b, s.c, s.d, s.e, s.f, s.g, s.h].map(u32::to_be_bytes);
     let mut bytes = [0u8; 32];
-    for i in 0..8 {
-        put(&mut bytes, 4 * i, &words[i].to_be_bytes());
-    }
+    bytes.copy_from_slice(words.as_flattened());
     bytes
 }
 
@@ -73,6 +68,7 @@ pub(crate) fn conclude(s: State, bytes: &[u8], n: u64) -> [u8; 32]
     requires { n % 64 ≡ length bytes.now % 64 }
     ensures { result ≡ output (whole compressed 64 s (bytes.now ++ padding n)) }
 {
-    let (state, rest) = absorb(s, bytes);
+    let mut state = s;
+    let rest = absorb::<Sha256, 64>(&mut state, bytes);
     output_bytes(finish(state, rest, n))
 }

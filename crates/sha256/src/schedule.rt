@@ -53,12 +53,8 @@ fn word(block: &[u8; 64], i: usize) -> u32
     requires { i < 16 }
     ensures { result ≡ word_at block.now i }
 {
-    u32::from_be_bytes([
-        block[4 * i],
-        block[4 * i + 1],
-        block[4 * i + 2],
-        block[4 * i + 3],
-    ])
+    let (words, _) = block.as_chunks::<4>();
+    u32::from_be_bytes(words[i])
 }
 
 /// The four words of a block from the word `i` on, with which its schedule begins.

@@ -1,2 +1,2 @@
-pub mod Constants
+pub mod Mixed
 pub mod Padding

@@ -1,5 +1,5 @@
 -- the padding of the standard, and the last block as the code lays it out
-use Rattle.std.proofs.Common.{◌≡◌, ℕ, zero, suc, ◌+◌, ◌-◌, ◌*◌, ◌/◌, ◌%◌, ◌<◌, List, [], ◌∷◌, ◌++◌, length, get_or, drop, set, replicate, sym, refl, ap, ◌∙◌, zero-add, add-one, arith}
+use Rattle.std.proofs.Common.{◌≡◌, ℕ, zero, suc, ◌+◌, ◌-◌, ◌*◌, ◌/◌, ◌%◌, ◌<◌, List, [], ◌∷◌, ◌++◌, length, get_or, drop, set, replicate, sym, refl, ap, ◌∙◌, add-one, arith}
 use lib.Bits.{bit_xor}
 use Rattle.std.proofs.lemmas.List.{set_at, get_or_at, drop-replicate, length-append, length-replicate, replicate_more, set-append_right, get_or-append_right}
 use Rattle.sha3.specs.Sha3.{octets, padding}
@@ -65,13 +65,13 @@ last_bit (suc j) =
     ∙ ap (λ z. 6 ∷ z) (set_at (replicate j 0) 0 [] 128 j (length-replicate j 0))
 
 -- zeros with the bytes `rest` in front, and the first and the last bits of the padding laid over them
-pub laid : (rest t : List ℕ) → length rest < 136 → t ≡ rest ++ drop (0 + length rest) (replicate 136 0)
+pub laid : (rest t : List ℕ) → length rest < 136 → t ≡ rest ++ drop (length rest) (replicate 136 0)
     → set (set t (length rest) 6) 135 (bit_xor (get_or (set t (length rest) 6) 135 0) 128) ≡ rest ++ padding (length rest)
 laid rest t short p =
     let k : ℕ = length rest in
     let zs : List ℕ = replicate (135 - k) 0 in
     let more : 136 - k ≡ suc (135 - k) = omega arith in
-    let q₁ : t ≡ rest ++ (0 ∷ zs) = p ∙ ap (λ j. rest ++ drop j (replicate 136 0)) (zero-add k) ∙ ap (λ y. rest ++ y) (drop-replicate k 136 0) ∙ ap (λ j. rest ++ replicate j 0) more in
+    let q₁ : t ≡ rest ++ (0 ∷ zs) = p ∙ ap (λ y. rest ++ y) (drop-replicate k 136 0) ∙ ap (λ j. rest ++ replicate j 0) more in
     let q₂ : set t k 6 ≡ rest ++ (6 ∷ zs) = ap (λ y. set y k 6) q₁ ∙ set_at rest 0 zs 6 k refl in
     let at : get_or (rest ++ (6 ∷ zs)) 135 0 ≡ get_or (6 ∷ zs) (135 - k) 0 = get_or-append_right rest (6 ∷ zs) k 135 0 refl (omega arith) in
     let size : suc (135 - k) ≡ 136 - k % 136 = omega arith in

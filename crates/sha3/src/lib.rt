@@ -35,10 +35,7 @@ impl Digest for Sha3_256 {
 pub fn pair(front: &[u8], back: &[u8]) -> [u8; LEN]
     ensures { result ≡ sha3_256 (front.now ++ back.now) }
 {
-    let mut hasher = Hasher::new();
-    hasher.update(front);
-    hasher.update(back);
-    hasher.finalize()
+    digest::pair::<Hasher>(front, back)
 }
 
 /// States that the definition of SHA3-256 that these contracts cite gives the published digests.

@@ -1,11 +1,12 @@
 //! The permutation Keccak-f[1600] (FIPS 202, section 3) on a state of 25 lanes.
 
-ghost use Rattle.std.specs.Prelude.{◌≡◌, ◌<◌, [], ◌∷◌};
+ghost use Rattle.std.specs.Prelude.{◌≡◌, ℕ, [], ◌∷◌};
 ghost use Rattle.sha3.specs.Keccak.{D, keccak_f, RC, Rnd, θ, ρ, π, χ};
 
 /// The lane (x, y) stands at x + 5 y.
 pub(crate) type State = [u64; 25];
 
+/// What ι mixes in, round by round.
 const ROUND_CONSTANTS: [u64; 24] = [
     0x0000000000000001,
     0x0000000000008082,
@@ -32,13 +33,6 @@ const ROUND_CONSTANTS: [u64; 24] = [
     0x0000000080000001,
     0x8000000080008008,
 ];
-
-fn round_constant(i: usize) -> u64
-    requires { i < 24 }
-    ensures { result ≡ RC i }
-{
-    ROUND_CONSTANTS[i]
-}
 
 /// What θ mixes into the lanes of each of the five sheets: the parities of the two columns beside.
 fn effects(a: State) -> [u64; 5]
@@ -125,13 +119,12 @@ fn chi(a: State) -> State
     ]
 }
 
-/// Round `i`: the steps above, and ι, which mixes in the round's constant.
-fn round(a: State, i: usize) -> State
-    requires { i < 24 }
-    ensures { result ≡ Rnd a i }
+/// One round: the steps above, and ι, which mixes in the round's constant.
+fn round(a: State, constant: u64) -> State
+    ensures { (i : ℕ) → constant ≡ RC i → result ≡ Rnd a i }
 {
     let mut b = chi(theta_rho_pi(a));
-    b[0] ^= round_constant(i);
+    b[0] ^= constant;
     b
 }
 
@@ -140,8 +133,8 @@ pub(crate) fn permute(a: State) -> State
     ensures { result ≡ keccak_f a }
 {
     let mut b = a;
-    for i in 0..24 {
-        let next = round(b, i);
+    for constant in &ROUND_CONSTANTS {
+        let next = round(b, *constant);
         b = next;
     }
     b

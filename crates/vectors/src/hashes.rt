@@ -2,65 +2,16 @@
 
 ghost use Rattle.std.specs.Prelude.{◌≡◌, ◌++◌, length, MatchOption, ◌≢◌};
 ghost use Rattle.sha256.specs.Sha256.{sha256};
-ghost use Rattle.vectors.specs.Hashes.{digest_by, times};
+ghost use Rattle.vectors.specs.Hashes.{times};
 
-use digest::Digest;
-use sha3::Sha3_256;
-use sha256::{Midstate, Sha256};
+use digest::{LEN, Streaming};
+use sha256::Midstate;
 
-/// A hash function.
-#[derive(Clone, Copy)]
-pub enum Hash {
-    Sha2,
-    Sha3,
-}
-
-impl Hash {
-    /// The digest of `bytes`.
-    pub fn whole(self, bytes: &[u8]) -> [u8; 32]
-        ensures { result ≡ digest_by self bytes.now }
-    {
-        match self {
-            Hash::Sha2 => Sha256.digest(bytes),
-            Hash::Sha3 => Sha3_256.digest(bytes),
-        }
-    }
-
-    /// The digest of `front` and then `back`.
-    pub fn pair(self, front: &[u8], back: &[u8]) -> [u8; 32]
-        ensures { result ≡ digest_by self (front.now ++ back.now) }
-    {
-        match self {
-            Hash::Sha2 => sha256::pair(front, back),
-            Hash::Sha3 => sha3::pair(front, back),
-        }
-    }
-
-    /// The digest of `count` times `bytes`, taken piece by piece.
-    pub fn repeated(self, count: u64, bytes: &[u8]) -> [u8; 32]
-        ensures { result ≡ digest_by self (times count bytes.now) }
-    {
-        match self {
-            Hash::Sha2 => repeated_sha2(count, bytes),
-            Hash::Sha3 => repeated_sha3(count, bytes),
-        }
-    }
-}
-
-fn repeated_sha2(count: u64, bytes: &[u8]) -> [u8; 32]
-    ensures { result ≡ digest_by Hash.Sha2 (times count bytes.now) }
+/// The digest of `count` times `bytes`, taken piece by piece.
+pub fn repeated<H: Streaming>(count: u64, bytes: &[u8]) -> [u8; LEN]
+    ensures { result ≡ H.Of.means (times count bytes.now) }
 {
-    let mut hasher = sha256::Hasher::new();
-    for _ in 0..count {
-        hasher.update(bytes);
-    }
-    hasher.finalize()
-}
-
-fn repeated_sha3(count: u64, bytes: &[u8]) -> [u8; 32]
-    ensures { result ≡ digest_by Hash.Sha3 (times count bytes.now) }
-{
-    let mut hasher = sha3::Hasher::new();
+    let mut hasher = H::new();
     for _ in 0..count {
         hasher.update(bytes);
     }
@@ -68,12 +19,9 @@ fn repeated_sha3(count: u64, bytes: &[u8]) -> [u8; 32]
 }
 
 /// The SHA-256 of a block and then `rest`, by the state after the block; `None` where the block has not 64 bytes.
-pub fn by_midstate(block: &[u8], rest: &[u8]) -> Option<[u8; 32]>
+pub fn by_midstate(block: &[u8], rest: &[u8]) -> Option<[u8; LEN]>
     ensures { MatchOption result (length block.now ≢ 64) (λ d. d ≡ sha256 (block.now ++ rest.now)) }
 {
-    if block.len() != 64 {
-        return None;
-    }
-    let (blocks, _) = block.as_chunks::<64>();
-    Some(Midstate::of(&blocks[0]).digest(rest))
+    let block = <&[u8; 64]>::try_from(block).ok()?;
+    Some(Midstate::of(block).digest(rest))
 }

@@ -1,14 +1,17 @@
-use Rattle.std.proofs.Common.{ℕ, ◌+◌, arith}
+use Rattle.std.proofs.Common.{◌≡◌, ℕ, ◌+◌, [], get_or, ap, arith}
+use Rattle.sha256.specs.Compression.{Constants}
+use Rattle.sha256.specs.Window.{sixteen_at}
 use Rattle.sha256.proofs.Rounds.{rounds_more, sums}
 use Rattle.sha256.proofs.compression.sixteen_rounds.Goals as goal
 
 pub returns : goal.returns
-returns c W q v e₀ =
-    let t : ℕ = c.args.t in
-    let x₀ = sums W t c.constants.result c.args.w.w0 c.constants.ensures v.first in
-    let x₄ = sums W (t + 4) c.constants-2.result c.args.w.w4 c.constants-2.ensures v.second in
-    let x₈ = sums W (t + 8) c.constants-3.result c.args.w.w8 c.constants-3.ensures v.third in
-    let x₁₂ = sums W (t + 12) c.constants-4.result c.args.w.w12 c.constants-4.ensures v.fourth in
+unfolding sixteen_at
+returns c W q t v k e₀ =
+    let quad : (i : ℕ) → get_or c.args.k.now i [] ≡ get_or (sixteen_at Constants t) i [] = λ i. ap (λ z. get_or z i []) k in
+    let x₀ = sums W t _ c.args.w.w0 (quad 0) v.first in
+    let x₄ = sums W (t + 4) _ c.args.w.w4 (quad 1) v.second in
+    let x₈ = sums W (t + 8) _ c.args.w.w8 (quad 2) v.third in
+    let x₁₂ = sums W (t + 12) _ c.args.w.w12 (quad 3) v.fourth in
     let e₁ = rounds_more W q _ _ t t (t + 1) e₀ (c.round-s1.ensures _ _ x₀.0) (omega arith) (omega arith) in
     let e₂ = rounds_more W q _ _ (t + 1) (t + 1) (t + 2) e₁ (c.round-s2.ensures _ _ x₀.1) (omega arith) (omega arith) in
     let e₃ = rounds_more W q _ _ (t + 2) (t + 2) (t + 3) e₂ (c.round-s3.ensures _ _ x₀.2) (omega arith) (omega arith) in

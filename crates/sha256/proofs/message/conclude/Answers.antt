@@ -11,6 +11,6 @@ returns c =
     c.output_bytes.ensures
     ∙ ap output
     (c.finish.ensures
-    ∙ ap (λ z. whole compressed 64 c.absorb.result.0 (z ++ pad)) c.absorb.ensures.rest
-    ∙ ap (λ z. whole compressed 64 z (left 64 c.args.bytes.now ++ pad)) c.absorb.ensures.state
+    ∙ ap (λ z. whole compressed 64 c.absorb-rest.new.state (z ++ pad)) c.absorb-rest.ensures.rest
+    ∙ ap (λ z. whole compressed 64 z (left 64 c.args.bytes.now ++ pad)) c.absorb-rest.ensures.state
     ∙ sym (whole_join compressed 64 (lit< tt) c.args.s c.args.bytes.now pad))

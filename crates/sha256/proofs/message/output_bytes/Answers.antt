@@ -1,20 +1,14 @@
-use Rattle.std.proofs.Common.{◌≡◌, sym, refl, ◌∙◌, arith}
-use Rattle.std.proofs.lemmas.List.{take_all}
-use Rattle.sha256.specs.Sha256.{output}
-use Rattle.sha256.specs.Padded.{joined_word}
+use Rattle.std.proofs.Common.{ℕ, List, [], ◌∷◌, ap, ◌∙◌}
+use Rattle.std.specs.List.{flat_map}
+use Rattle.digest.proofs.Tables.{mapped}
+use Rattle.sha256.specs.Sha256.{bytes32, output}
 use Rattle.sha256.proofs.message.output_bytes.Goals as goal
-
-pub loop-i-init : goal.loop-i-init
-loop-i-init c = (refl, refl)
-
-pub loop-i-preserved : goal.loop-i-preserved
-loop-i-preserved c = (
-  c.put.auto.block ∙ c.loop-i.invariant.0,
-  joined_word _ c.loop-i.bytes c.put.new.block c.to_be_bytes.result c.loop-i.i (omega arith) (omega arith) c.loop-i.invariant.1 c.to_be_bytes.ensures c.put.ensures,
-)
 
 pub returns : goal.returns
 unfolding output
 returns c =
-    let n : c.loop-i.i ≡ 8 = omega arith in
-    sym (take_all 32 c.loop-i.bytes (omega arith)) ∙ (rw n at c.loop-i.invariant.1)
+    let s = c.args.s in
+    let words : List ℕ = s.a ∷ s.b ∷ s.c ∷ s.d ∷ s.e ∷ s.f ∷ s.g ∷ s.h ∷ [] in
+    let items = c.map-words.ensures.items in
+    c.copy_from_slice.ensures.after ∙ c.as_flattened.ensures.value
+    ∙ ap (flat_map (λ x. x)) (mapped bytes32 0 words c.map-words.result items.long (λ k e h. (items.at k 0 e h).2.met))

@@ -1,14 +1,19 @@
 use Rattle.std.proofs.Common.{◌≡◌, refl, ap, add-one, arith}
-use Rattle.sha3.specs.Keccak.{rounds}
+use Rattle.sha3.specs.Keccak.{RC, rounds}
+use Rattle.digest.proofs.Tables.{tabled}
 use Rattle.sha3.proofs.permutation.permute.Goals as goal
 
-pub loop-i-init : goal.loop-i-init
+pub loop-constant-init : goal.loop-constant-init
 unfolding rounds
-loop-i-init c = refl
+loop-constant-init c = refl
 
-pub loop-i-preserved : goal.loop-i-preserved
-unfolding rounds
-loop-i-preserved c = let m = ap (λ n. rounds n c.args.a) (add-one c.loop-i.i) in cc
+pub loop-constant-preserved : goal.loop-constant-preserved
+unfolding RC rounds
+loop-constant-preserved c =
+    let k = c.loop-constant.constant-index in
+    let one = c.round-next.ensures k (tabled RC 24 _ k 0 refl c.loop-constant-test.true) in
+    let m = ap (λ n. rounds n c.args.a) (add-one k) in
+    cc
 
 pub returns : goal.returns
-returns c = let n : c.loop-i.i ≡ 24 = omega arith in cc
+returns c = let n : c.loop-constant.constant-index ≡ 24 = omega arith in cc

@@ -3,4 +3,4 @@ use Rattle.sha3.proofs.permutation.round.Goals as goal
 
 pub returns : goal.returns
 unfolding Rnd
-returns c = cc
+returns c i e = cc

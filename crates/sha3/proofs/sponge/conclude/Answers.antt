@@ -13,7 +13,7 @@ one_block s b l = sym (whole_first step 136 (lit< tt) s b [] l) ∙ ap (whole st
 pub returns : goal.returns
 returns c =
     let bs : List ℕ = c.args.bytes.now in
-    let state : List ℕ = c.absorb-rest.new.a in
+    let state : List ℕ = c.absorb-rest.new.state in
     let rest : List ℕ = c.absorb-rest.result.now in
     let last : List ℕ = rest ++ padding (length rest) in
     let pad : List ℕ = padding (length bs) in
@@ -21,7 +21,7 @@ returns c =
     let l : length last ≡ 136 = length-append rest (padding (length rest)) ∙ omega (arith, padding-length (length rest), c.absorb-rest.ensures.len) in
     c.squeeze.ensures
     ∙ ap squeezed
-    (c.absorb_block.ensures
+    (c.compress.ensures
     ∙ ap (step state) c.last_block.ensures
     ∙ one_block state last l
     ∙ ap (λ z. whole step 136 state (rest ++ z)) (padding_mod (length rest) (length bs) m)

@@ -1,6 +1,7 @@
 use Rattle.std.proofs.Common.{Some, inl, inr, lit<}
 use Rattle.std.proofs.lemmas.Str.Pattern.{split_parts}
-use Rattle.vectors.specs.declared.hashes.Hash.TheVariants.{Sha2, Sha3}
+use Rattle.sha256.specs.Sha256.{sha256}
+use Rattle.sha3.specs.Sha3.{sha3_256}
 use Rattle.vectors.specs.Questions.{OfHmac, OfMidstate, OfOne, OfPair}
 use Rattle.vectors.proofs.Found.{asked}
 use Rattle.vectors.proofs.answers.digest_asked.Goals as goal
@@ -8,25 +9,25 @@ use Rattle.vectors.proofs.answers.digest_asked.Goals as goal
 pub returns-in-sha256 : goal.returns-in-sha256
 returns-in-sha256 c =
     let cut = split_parts 32 c.args.line.now (Some (c.in-Some.name, c.in-Some.words)) c.in-Some.ensures.cases (lit< tt) in
-    asked c.args.line.now c.in-Some.name.now c.in-Some.words.now cut.0 (OfOne Sha2 c.in-Some.words.now)
+    asked c.args.line.now c.in-Some.name.now c.in-Some.words.now cut.0 (OfOne sha256 c.in-Some.words.now)
     (λ d p. inl (c.in-sha256.is, p)) c.of_one.result c.of_one.ensures
 
 pub returns-in-text : goal.returns-in-text
 returns-in-text c =
     let cut = split_parts 32 c.args.line.now (Some (c.in-Some.name, c.in-Some.words)) c.in-Some.ensures.cases (lit< tt) in
-    asked c.args.line.now c.in-Some.name.now c.in-Some.words.now cut.0 (OfOne Sha3 c.in-Some.words.now)
+    asked c.args.line.now c.in-Some.name.now c.in-Some.words.now cut.0 (OfOne sha3_256 c.in-Some.words.now)
     (λ d p. inr (inl (c.in-text.is, p))) c.of_one-in-text.result c.of_one-in-text.ensures
 
 pub returns-in-text-2 : goal.returns-in-text-2
 returns-in-text-2 c =
     let cut = split_parts 32 c.args.line.now (Some (c.in-Some.name, c.in-Some.words)) c.in-Some.ensures.cases (lit< tt) in
-    asked c.args.line.now c.in-Some.name.now c.in-Some.words.now cut.0 (OfPair Sha2 c.in-Some.words.now)
+    asked c.args.line.now c.in-Some.name.now c.in-Some.words.now cut.0 (OfPair sha256 c.in-Some.words.now)
     (λ d p. inr (inr (inl (c.in-text-2.is, p)))) c.of_two.result c.of_two.ensures
 
 pub returns-in-text-3 : goal.returns-in-text-3
 returns-in-text-3 c =
     let cut = split_parts 32 c.args.line.now (Some (c.in-Some.name, c.in-Some.words)) c.in-Some.ensures.cases (lit< tt) in
-    asked c.args.line.now c.in-Some.name.now c.in-Some.words.now cut.0 (OfPair Sha3 c.in-Some.words.now)
+    asked c.args.line.now c.in-Some.name.now c.in-Some.words.now cut.0 (OfPair sha3_256 c.in-Some.words.now)
     (λ d p. inr (inr (inr (inl (c.in-text-3.is, p))))) c.of_two-in-text-3.result c.of_two-in-text-3.ensures
 
 pub returns-in-text-4 : goal.returns-in-text-4

@@ -1,6 +1,0 @@
-use Rattle.sha3.specs.Stream.{Took}
-use Rattle.vectors.specs.Hashes.{times}
-use Rattle.vectors.proofs.hashes.repeated_sha3.Given as goal
-
-abbrev pub invariant-loop : goal.invariant-loop
-invariant-loop l = Took l.hasher (times l.counter l.bytes)
