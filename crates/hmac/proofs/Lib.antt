@@ -1,1 +1,2 @@
 mod Differences
+mod Mapped

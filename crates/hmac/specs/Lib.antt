@@ -1,4 +1,5 @@
 pub mod Hmac
+pub mod Differing
 pub mod Pads
 pub mod Keys
 pub mod Calls

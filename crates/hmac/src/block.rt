@@ -24,9 +24,8 @@ fn zero_filled(part: &[u8]) -> [u8; BLOCK]
     requires { length part.now ≤ 64 }
     ensures { result ≡ zero_filled part.now }
 {
-    let len = part.len();
     let mut block = [0; BLOCK];
-    block[0..len].copy_from_slice(part);
+    block[..part.len()].copy_from_slice(part);
     block
 }
 
@@ -34,6 +33,7 @@ fn zero_filled(part: &[u8]) -> [u8; BLOCK]
 pub(crate) fn xored(mut block: [u8; BLOCK], byte: u8) -> [u8; BLOCK]
     ensures { result ≡ xored byte block }
 {
+    // Kept: an array's `map` moves each byte through an `Option`, which was tried and makes the hash of a short text a third slower.
     for b in block.iter_mut() {
         *b ^= byte;
     }

@@ -10,7 +10,7 @@ ghost use Rattle.std.proofs.Common.{rules};
 
 use super::equal::equal;
 use super::keyed::Keyed;
-use signature::{MAX_SITES, MAX_TEXT, Refusal, Scheme, is_site};
+use signature::{MAX_SITES, MAX_TEXT, Refusal, Scheme, check_site, is_site};
 
 /// How many keys a scheme has: one for each site.
 pub const KEYS: usize = MAX_SITES as usize;
@@ -26,11 +26,9 @@ impl Hmac {
     pub fn new(keys: &[[u8; 32]; KEYS]) -> Hmac
         ensures { site_keys result ≡ keys.now }
     {
-        let mut sites = [Keyed::of(&keys[0]); KEYS];
-        for i in 1..KEYS {
-            sites[i] = Keyed::of(&keys[i]);
+        Hmac {
+            sites: keys.each_ref().map(Keyed::of),
         }
-        Hmac { sites }
     }
 
     // The HMAC of `text` under the key of `site`.
@@ -38,14 +36,14 @@ impl Hmac {
         requires { Site site }
         ensures { result ≡ mac (site_keys self.now) site text.now }
     {
-        self.sites[site as usize - 1].mac(text)
+        self.sites[usize::from(site) - 1].mac(text)
     }
 }
 
 impl Scheme for Hmac {
     const G: usize = 32;
 
-    ghost len = { 32 };
+    ghost G = { 32 };
 
     ghost means = { λ h. meaning (site_keys h) };
 
@@ -55,10 +53,6 @@ impl Scheme for Hmac {
 
     ghost fits = { λ x s t g h. MacLaws.fits (site_keys x) s t g h };
 
-    fn size() -> usize {
-        Self::G
-    }
-
     /// Beyond what every scheme promises: what is written is the HMAC of `text` under the key of `site`.
     fn sign(&mut self, site: u8, text: &[u8], out: &mut [u8]) -> Result<(), Refusal>
         ensures signs { Signs 32 (meaning (site_keys self.old)) (meaning (site_keys self.new)) site text.now out.old out.new result }
@@ -66,21 +60,13 @@ impl Scheme for Hmac {
         ensures same { site_keys self.new ≡ site_keys self.old }
     {
         // never by `NoneLeft`, since signatures do not run out
-        self.left(site)?;
-        if text.len() > MAX_TEXT {
-            return Err(Refusal::TextTooLong);
-        }
-        if out.len() < Self::G {
-            return Err(Refusal::BufferTooShort);
-        }
-        out[0..Self::G].copy_from_slice(&self.mac(site, text));
+        self.check_sign(site, text, out.len())?;
+        out[..Self::G].copy_from_slice(&self.mac(site, text));
         Ok(())
     }
 
     fn left(&self, site: u8) -> Result<u32, Refusal> {
-        if !is_site(site) {
-            return Err(Refusal::OutOfRange);
-        }
+        check_site(site)?;
         Ok(u32::MAX)
     }
 

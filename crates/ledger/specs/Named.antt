@@ -1,9 +1,9 @@
 -- The entry that a signature names.
-use Rattle.std.specs.Prelude.{◌≡◌, ℕ, zero, suc, ◌+◌, ◌-◌, ◌<◌, ◌≤◌, true, false, List, [], ◌∷◌, map, length, take, ◌==◌, nat_lt, slice_index_or, refl}
+use Rattle.std.specs.Prelude.{◌≡◌, ℕ, zero, suc, ◌+◌, ◌-◌, ◌<◌, ◌≤◌, true, false, List, [], ◌∷◌, map, length, ◌==◌, nat_lt, slice_index_or, refl}
 use Rattle.std.proofs.Common.{sym, ap, ◌∙◌, arith, eqb-true, eq-eqb, lt-ltb}
 use Rattle.std.specs.Str.{bytes_eq}
 use Rattle.std.proofs.lemmas.Slice.Eq.{bytes_eq-Decides}
-use Rattle.std.proofs.lemmas.List.{length-map, length-take, get_or-map, get_or_past}
+use Rattle.std.proofs.lemmas.List.{length-map, get_or-map, get_or_past}
 use Rattle.std.proofs.lemmas.Bool.{and_parts, both_ways}
 use Rattle.octets.specs.Numbers.{number}
 use Rattle.signature.specs.Meaning.{Fits}
@@ -19,10 +19,9 @@ some (x ∷ xs) s t (suc k) h = some xs s t k h
 
 within : (e : Entry) (s : ℕ) (t g : List ℕ) → holds s t (held e) ≡ true → length g ≡ 8 → Fits 8 s t g
 within e s t g h long =
-    let p = and_parts (e.site == s) (bytes_eq (take e.len e.text) t) h in
+    let p = and_parts (e.site == s) (bytes_eq e.text.items t) h in
     let site = eqb-true e.site s p.0 in
-    let text = (bytes_eq-Decides (take e.len e.text) t).0 p.1 in
-    let n = length-take e.len e.text in
+    let text = (bytes_eq-Decides e.text.items t).0 p.1 in
     let a = e.ranged.0 in
     let b = e.ranged.1 in
     let m = e.short in

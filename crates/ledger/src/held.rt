@@ -7,8 +7,7 @@ ghost use Rattle.ledger.specs.Entries.{signing, holds};
 ghost use Rattle.ledger.specs.Held.{held};
 
 use super::entry::Entry;
-use octets::same;
-use signature::MAX_TEXT;
+use arrayvec::ArrayVec;
 
 impl Entry {
     /// The entry of a signing.
@@ -17,20 +16,14 @@ impl Entry {
         requires short { length text.now ≤ max_text }
         ensures { held result ≡ signing site text.now }
     {
-        let len = text.len();
-        let mut padded = [0; MAX_TEXT];
-        padded[0..len].copy_from_slice(text);
-        Entry {
-            site,
-            len,
-            text: padded,
-        }
+        let text = ArrayVec::try_from(text).unwrap();
+        Entry { site, text }
     }
 
     /// Whether this is an entry of `site` and `text`.
     pub(crate) fn holds(&self, site: u8, text: &[u8]) -> bool
         ensures { result ≡ holds site text.now (held self.now) }
     {
-        self.site == site && same(&self.text[0..self.len], text)
+        self.site == site && self.text.as_slice() == text
     }
 }

@@ -8,13 +8,13 @@ ghost use Rattle.std.proofs.Common.{rules};
 
 use super::entry::Entry;
 use super::ledger::Ledger;
-use super::serial::{MAX_ENTRIES, place_of, serial_bytes};
-use signature::{MAX_TEXT, Refusal, Scheme, is_site};
+use super::serial::MAX_ENTRIES;
+use signature::{Refusal, Scheme, check_site};
 
 impl Scheme for Ledger {
     const G: usize = 8;
 
-    ghost len = { 8 };
+    ghost G = { 8 };
 
     ghost means = { λ l. meaning (entries l) };
 
@@ -24,42 +24,25 @@ impl Scheme for Ledger {
 
     ghost fits = { λ x s t g h. Named.fits x.entries.items s t g h };
 
-    fn size() -> usize {
-        Self::G
-    }
-
     /// Beyond what every scheme promises: the signing becomes the last entry, and its serial number is what is written.
     fn sign(&mut self, site: u8, text: &[u8], out: &mut [u8]) -> Result<(), Refusal>
         ensures signs { Signs 8 (meaning (entries self.old)) (meaning (entries self.new)) site text.now out.old out.new result }
         ensures enters { Enters (entries self.old) (entries self.new) site text.now out.old out.new result }
     {
-        let left = self.left(site)?;
-        if text.len() > MAX_TEXT {
-            return Err(Refusal::TextTooLong);
-        }
-        if left == 0 {
-            return Err(Refusal::NoneLeft);
-        }
-        if out.len() < Self::G {
-            return Err(Refusal::BufferTooShort);
-        }
+        self.check_sign(site, text, out.len())?;
         let serial = self.entries.len() as u64 + 1;
         self.entries.push_reserved(Entry::of(site, text));
-        out[0..Self::G].copy_from_slice(&serial_bytes(serial));
+        out[..Self::G].copy_from_slice(&serial.to_be_bytes());
         Ok(())
     }
 
     fn left(&self, site: u8) -> Result<u32, Refusal> {
-        if !is_site(site) {
-            return Err(Refusal::OutOfRange);
-        }
+        check_site(site)?;
         Ok((MAX_ENTRIES - self.count(site)) as u32)
     }
 
     fn check(&self, site: u8, text: &[u8], signature: &[u8]) -> bool {
-        match place_of(signature) {
-            Some(place) => place < self.entries.len() && self.entries[place].holds(site, text),
-            None => false,
-        }
+        self.named(signature)
+            .is_some_and(|entry| entry.holds(site, text))
     }
 }

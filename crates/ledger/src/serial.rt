@@ -1,9 +1,12 @@
 //! The entries of a ledger by their sites and serial numbers.
 
-ghost use Rattle.std.specs.Prelude.{◌≡◌, ◌≤◌, [], IfOk};
-ghost use Rattle.ledger.specs.Calls.{entries, Placed};
-ghost use Rattle.ledger.specs.Entries.{most, count, serial};
+ghost use Rattle.std.specs.Prelude.{◌≡◌, [], IfOk};
+ghost use Rattle.ledger.specs.Calls.{entries, Finds, Placed};
+ghost use Rattle.ledger.specs.Entries.{count};
+ghost use Rattle.ledger.specs.Held.{held};
+ghost use Rattle.std.specs.Option.{option_map};
 
+use super::entry::Entry;
 use super::ledger::Ledger;
 use signature::MAX_SITES;
 use std::alloc::{AllocError, Global};
@@ -16,41 +19,32 @@ impl Ledger {
     pub fn new(heap: Global) -> Result<Ledger, AllocError>
         ensures { IfOk result (λ l. entries l ≡ []) }
     {
-        let entries = Vec::with_capacity(heap, MAX_SITES as usize * MAX_ENTRIES)?;
+        let entries = Vec::with_capacity(heap, usize::from(MAX_SITES) * MAX_ENTRIES)?;
         Ok(Ledger { entries })
     }
 
     // How many entries a site has.
     pub(crate) fn count(&self, site: u8) -> usize
-        ensures value { result ≡ count site (entries self.now) }
-        ensures bound { result ≤ most }
+        ensures { result ≡ count site (entries self.now) }
     {
-        let mut n = 0;
-        for entry in self.entries.as_slice() {
-            if entry.site == site {
-                n += 1;
-            }
-        }
-        n
+        self.entries
+            .iter()
+            .filter(|entry| entry.site == site)
+            .count()
     }
-}
 
-// A serial number as a signature.
-pub(crate) fn serial_bytes(n: u64) -> [u8; 8]
-    ensures { result ≡ serial n }
-{
-    n.to_be_bytes()
+    // The entry that a signature names, if it names any.
+    pub(crate) fn named(&self, signature: &[u8]) -> Option<&Entry>
+        ensures { Finds (entries self.now) signature.now (option_map (λ e. held e.now) result) }
+    {
+        self.entries.get(place_of(signature)?)
+    }
 }
 
 // Where the entry stands that a signature names.
-pub(crate) fn place_of(signature: &[u8]) -> Option<usize>
+fn place_of(signature: &[u8]) -> Option<usize>
     ensures { Placed signature.now result }
 {
-    match signature {
-        [a, b, c, d, e, f, g, h] => {
-            let serial = u64::from_be_bytes([*a, *b, *c, *d, *e, *f, *g, *h]);
-            (serial as usize).checked_sub(1)
-        }
-        _ => None,
-    }
+    let serial = u64::from_be_bytes(<[u8; 8]>::try_from(signature).ok()?);
+    (serial as usize).checked_sub(1)
 }

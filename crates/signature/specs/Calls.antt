@@ -13,6 +13,11 @@ SignRefused len m site text room TextTooLong = Site site × (max_text < length t
 SignRefused len m site text room NoneLeft = Site site × (length text ≤ max_text) × (m.left site ≡ 0)
 SignRefused len m site text room BufferTooShort = Site site × (length text ≤ max_text) × (0 < m.left site) × (room < len)
 
+-- what the checks answer that come before a signing
+abbrev pub MaySign : ℕ → SchemeMeaning → ℕ → List ℕ → ℕ → Result (Unit {0}) Refusal → Type 0
+MaySign len m site text room (Ok _) = Site site × (length text ≤ max_text) × (0 < m.left site) × (len ≤ room)
+MaySign len m site text room (Err e) = SignRefused len m site text room e
+
 -- A signature was made of a text. Which one is left open, but that it is valid from then on.
 pub record Made (len : ℕ) (m m' : SchemeMeaning) (site : ℕ) (text signature : List ℕ) : Type 0 where
   pub fits : Fits len site text signature
@@ -27,6 +32,11 @@ pub record Made (len : ℕ) (m m' : SchemeMeaning) (site : ℕ) (text signature 
 abbrev pub Signs : ℕ → SchemeMeaning → SchemeMeaning → ℕ → List ℕ → List ℕ → List ℕ → Result (Unit {0}) Refusal → Type 0
 Signs len m m' site text was is (Ok _) = (signature : List ℕ) × Made len m m' site text signature × (len ≤ length was) × (is ≡ signature ++ drop len was)
 Signs len m m' site text was is (Err e) = SignRefused len m site text (length was) e × (m' ≡ m) × (is ≡ was)
+
+-- there is such a site
+abbrev pub ChecksSite : ℕ → Result (Unit {0}) Refusal → Type 0
+ChecksSite site (Ok _) = Site site
+ChecksSite site (Err e) = (Site site → ⊥) × (e ≡ OutOfRange)
 
 abbrev pub Lefts : SchemeMeaning → ℕ → Result ℕ Refusal → Type 0
 Lefts m site (Ok n) = Site site × (n ≡ m.left site)

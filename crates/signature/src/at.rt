@@ -13,10 +13,10 @@ pub fn sign_at<S: Scheme>(
     out: &mut [u8],
     start: usize,
 ) -> Result<usize, Refusal>
-    ensures { SignsAt S.Scheme.len (S.Scheme.means scheme.old) (S.Scheme.means scheme.new) site text.now start out.old out.new result }
+    ensures { SignsAt S.Scheme.G (S.Scheme.means scheme.old) (S.Scheme.means scheme.new) site text.now start out.old out.new result }
 {
     let end = out.len();
     let begin = start.min(end);
     scheme.sign(site, text, &mut out[begin..end])?;
-    Ok(begin + S::size())
+    Ok(begin + S::G)
 }

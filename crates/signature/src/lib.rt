@@ -12,7 +12,7 @@ mod scheme;
 mod spent;
 
 pub use at::sign_at;
-pub use limits::{MAX_SIGNATURE, MAX_SITES, MAX_TEXT, is_site};
+pub use limits::{MAX_SIGNATURE, MAX_SITES, MAX_TEXT, check_site, is_site};
 pub use refusal::Refusal;
 pub use scheme::Scheme;
 pub use spent::Spent;

@@ -1,7 +1,10 @@
 //! The limits of every scheme. specs/Limits.antt has the same numbers for the contracts.
 
 ghost use Rattle.std.specs.Prelude.{Decides};
+ghost use Rattle.signature.specs.Calls.{ChecksSite};
 ghost use Rattle.signature.specs.Meaning.{Site};
+
+use super::refusal::Refusal;
 
 /// Sites are numbered from 1 to this.
 pub const MAX_SITES: u8 = 8;
@@ -16,5 +19,15 @@ pub const MAX_SIGNATURE: usize = 64;
 pub fn is_site(site: u8) -> bool
     ensures { Decides result (Site site) }
 {
-    1 <= site && site <= MAX_SITES
+    (1..=MAX_SITES).contains(&site)
+}
+
+/// Refuses a site that there is not.
+pub fn check_site(site: u8) -> Result<(), Refusal>
+    ensures { ChecksSite site result }
+{
+    if !is_site(site) {
+        return Err(Refusal::OutOfRange);
+    }
+    Ok(())
 }

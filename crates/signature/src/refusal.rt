@@ -1,19 +1,23 @@
 ghost use Rattle.std.specs.Prelude.{◌≡◌};
 ghost use Rattle.signature.specs.Refusals.{numbered};
 
-use std::fmt;
+use thiserror::Error;
 
 /// Why a call was refused. A refused call changes nothing.
-#[derive(Clone, Copy, Debug, PartialEq, Eq)]
+#[derive(Clone, Copy, Debug, PartialEq, Eq, Error)]
 pub enum Refusal {
     /// The site is not from 1 to `MAX_SITES`.
-    OutOfRange,
+    #[error("the site is out of range")]
+    OutOfRange = 1,
     /// The text has more than `MAX_TEXT` bytes.
-    TextTooLong,
+    #[error("the text to sign is too long")]
+    TextTooLong = 4,
     /// The site has no signature left.
-    NoneLeft,
+    #[error("the site has no signature left")]
+    NoneLeft = 6,
     /// The buffer is shorter than a signature.
-    BufferTooShort,
+    #[error("the buffer is too short")]
+    BufferTooShort = 11,
 }
 
 impl Refusal {
@@ -21,22 +25,6 @@ impl Refusal {
     pub fn number(&self) -> u8
         ensures { result ≡ numbered self.now }
     {
-        match self {
-            Refusal::OutOfRange => 1,
-            Refusal::TextTooLong => 4,
-            Refusal::NoneLeft => 6,
-            Refusal::BufferTooShort => 11,
-        }
-    }
-}
-
-impl fmt::Display for Refusal {
-    fn fmt<W: fmt::Write>(&self, f: &mut fmt::Formatter<W>) -> fmt::Result {
-        match self {
-            Refusal::OutOfRange => write!(f, "the site is out of range"),
-            Refusal::TextTooLong => write!(f, "the text to sign is too long"),
-            Refusal::NoneLeft => write!(f, "the site has no signature left"),
-            Refusal::BufferTooShort => write!(f, "the buffer is too short"),
-        }
+        *self as u8
     }
 }

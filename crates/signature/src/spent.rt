@@ -1,7 +1,7 @@
 ghost use Rattle.std.specs.Prelude.{false};
 ghost use Rattle.std.proofs.Common.{rules};
 
-use super::limits::{MAX_TEXT, is_site};
+use super::limits::check_site;
 use super::refusal::Refusal;
 use super::scheme::Scheme;
 
@@ -14,7 +14,7 @@ pub struct Spent;
 impl Scheme for Spent {
     const G: usize = 1;
 
-    ghost len = { 1 };
+    ghost G = { 1 };
 
     ghost means = { λ _. record { valid = λ _ _ _. false; left = λ _. 0 } };
 
@@ -24,24 +24,12 @@ impl Scheme for Spent {
 
     ghost fits = { Prim.search rules };
 
-    fn size() -> usize {
-        Self::G
-    }
-
-    fn sign(&mut self, site: u8, text: &[u8], _out: &mut [u8]) -> Result<(), Refusal> {
-        if !is_site(site) {
-            return Err(Refusal::OutOfRange);
-        }
-        if text.len() > MAX_TEXT {
-            return Err(Refusal::TextTooLong);
-        }
-        Err(Refusal::NoneLeft)
+    fn sign(&mut self, site: u8, text: &[u8], out: &mut [u8]) -> Result<(), Refusal> {
+        self.check_sign(site, text, out.len())
     }
 
     fn left(&self, site: u8) -> Result<u32, Refusal> {
-        if !is_site(site) {
-            return Err(Refusal::OutOfRange);
-        }
+        check_site(site)?;
         Ok(0)
     }
 

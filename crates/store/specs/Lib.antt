@@ -1,10 +1,9 @@
 pub mod Limits
-pub mod Shape
 pub mod Faults
 pub mod Meaning
 pub mod Calls
 pub mod Checks
+pub mod Pair
 pub mod Table
 pub mod Wear
 pub mod Slots
-pub mod Places

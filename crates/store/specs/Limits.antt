@@ -1,5 +1,5 @@
 -- The limits of a store.
-use Rattle.std.specs.Prelude.{ℕ, ◌*◌}
+use Rattle.std.specs.Prelude.{ℕ}
 
 -- sites are numbered from 1
 abbrev pub max_sites : ℕ
@@ -12,7 +12,3 @@ max_slot = 1024
 -- the rewrites left
 abbrev pub max_left : ℕ
 max_left = 4294967295
-
--- the slots of all sites, which have two each
-abbrev pub places : ℕ
-places = 2 * max_sites

@@ -1,31 +1,35 @@
 -- The slots of a table.
-use Rattle.std.specs.Prelude.{◌≡◌, ℕ, zero, suc, ◌*◌, ◌≤◌, List, [], length, drop, replicate, vec_items, slice_index, refl}
+use Rattle.std.specs.Prelude.{ℕ, zero, suc, ◌≤◌, List, [], ◌∷◌, length, vec_items}
 use Rattle.std.proofs.Common.{arith}
-use Rattle.std.proofs.lemmas.List.{length-take}
 use Rattle.octets.specs.Numbers.{Bytes}
 use Rattle.store.specs.declared.slot.Slot.{Slot}
+use Rattle.store.specs.declared.slot.Slot.TheVariants.{Value, Version}
 use Rattle.store.specs.declared.table.Table.{Table}
+use Rattle.store.specs.declared.table.pair.Pair.{Pair}
 use Rattle.store.specs.Limits.{max_slot}
 use Rattle.store.specs.Meaning.{Sound}
-use Rattle.store.specs.Table.{place_of, slot_in, table_meaning}
-use Rattle.store.specs.Places.{get_or_zeros, bytes_drop, bytes_take}
+use Rattle.store.specs.Pair.{bytes_in}
+use Rattle.store.specs.Table.{slot_in, table_meaning}
 
--- where every length is 0, every slot is empty
-pub slots_empty : (n : ℕ) (xs : List ℕ) (s : Slot) (i : ℕ) → slot_in (replicate n 0) xs s i ≡ []
-unfolding slot_in
-slots_empty n xs s zero = refl
-slots_empty n xs s (suc k) = rw (get_or_zeros n (place_of s k))
+slot_short : (p : Pair) (s : Slot) → length (bytes_in s p) ≤ max_slot
+slot_short p Value = p.value.short
+slot_short p Version = p.version.short
+
+slot_bytes : (p : Pair) (s : Slot) → Bytes (bytes_in s p)
+slot_bytes p Value = p.value.bounded
+slot_bytes p Version = p.version.bounded
+
+short : (ps : List Pair) (s : Slot) (i : ℕ) → length (slot_in ps s i) ≤ max_slot
+short ps s zero = omega arith
+short [] s (suc k) = omega arith
+short (p ∷ ps) s (suc zero) = slot_short p s
+short (p ∷ ps) s (suc (suc k)) = short ps s (suc k)
+
+bytes : (ps : List Pair) (s : Slot) (i : ℕ) → Bytes (slot_in ps s i)
+bytes ps s zero = λ k. omega arith
+bytes [] s (suc k) = λ k. omega arith
+bytes (p ∷ ps) s (suc zero) = slot_bytes p s
+bytes (p ∷ ps) s (suc (suc k)) = bytes ps s (suc k)
 
 pub table_sound : (t : Table) → Sound (table_meaning t)
-unfolding slot_in
-table_sound t = record { short = short; bytes = bytes; few = omega arith }
-  where
-    short : (s : Slot) (i : ℕ) → length ((table_meaning t).slot s i) ≤ max_slot
-    short s zero = omega arith
-    short s (suc k) =
-        let l = t.short (place_of s k) in
-        rw (length-take (slice_index t.lengths (place_of s k)) (drop (max_slot * place_of s k) (vec_items t.space))) (omega arith)
-
-    bytes : (s : Slot) (i : ℕ) → Bytes ((table_meaning t).slot s i)
-    bytes s zero = λ k. omega arith
-    bytes s (suc j) = bytes_take (slice_index t.lengths (place_of s j)) _ (bytes_drop (max_slot * place_of s j) (vec_items t.space) t.bytes)
+table_sound t = record { short = short (vec_items t.sites); bytes = bytes (vec_items t.sites); few = omega arith }

@@ -10,7 +10,7 @@ use crate::slot::{MAX_SITES, MAX_SLOT};
 pub(crate) fn check_site(site: u8) -> Result<(), Fault>
     ensures { ChecksSite site result }
 {
-    if site < 1 || site > MAX_SITES {
+    if !(1..=MAX_SITES).contains(&site) {
         return Err(Fault::OutOfRange);
     }
     Ok(())

@@ -1,19 +1,23 @@
 ghost use Rattle.std.specs.Prelude.{◌≡◌};
 ghost use Rattle.store.specs.Faults.{numbered};
 
-use std::fmt;
+use thiserror::Error;
 
 /// Why a store refused a call. A refused call changes nothing.
-#[derive(Clone, Copy, Debug, PartialEq, Eq)]
+#[derive(Clone, Copy, Debug, PartialEq, Eq, Error)]
 pub enum Fault {
     /// There is no such site: its number is 0 or above `MAX_SITES`.
-    OutOfRange,
+    #[error("the site is out of range")]
+    OutOfRange = 1,
     /// The new bytes of a slot are more than `MAX_SLOT`.
-    TooLong,
+    #[error("the bytes are too many for the slot")]
+    TooLong = 4,
     /// The store has no rewrite left.
-    NoRewriteLeft,
+    #[error("the store has no rewrite left")]
+    NoRewriteLeft = 10,
     /// The buffer is shorter than the slot.
-    BufferTooShort,
+    #[error("the buffer is too short")]
+    BufferTooShort = 11,
 }
 
 impl Fault {
@@ -21,22 +25,6 @@ impl Fault {
     pub fn number(&self) -> u8
         ensures { result ≡ numbered self.now }
     {
-        match self {
-            Fault::OutOfRange => 1,
-            Fault::TooLong => 4,
-            Fault::NoRewriteLeft => 10,
-            Fault::BufferTooShort => 11,
-        }
-    }
-}
-
-impl fmt::Display for Fault {
-    fn fmt<W: fmt::Write>(&self, f: &mut fmt::Formatter<W>) -> fmt::Result {
-        match self {
-            Fault::OutOfRange => write!(f, "the site is out of range"),
-            Fault::TooLong => write!(f, "the bytes are too many for the slot"),
-            Fault::NoRewriteLeft => write!(f, "the store has no rewrite left"),
-            Fault::BufferTooShort => write!(f, "the buffer is too short"),
-        }
+        *self as u8
     }
 }

@@ -8,6 +8,7 @@ use crate::slot::Slot;
 /// A register store: a value slot and a version slot for each site, and a number of rewrites that are left.
 ///
 /// Code over this trait knows a store by its meaning alone, so it is written and proved once for all of them.
+// Kept: a slot and a site go together in two calls, but callers have them apart, and a struct would be made for one call each time.
 pub trait Store {
     // what the slots hold and how many rewrites are left
     ghost means: { Self → StoreMeaning };

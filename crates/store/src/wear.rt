@@ -32,11 +32,7 @@ impl<T> Wear<T> {
     pub fn into_inner(self) -> T
         ensures { result ≡ self.below }
     {
-        let Wear {
-            below,
-            allowance: _,
-        } = self;
-        below
+        self.below
     }
 }
 

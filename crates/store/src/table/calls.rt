@@ -1,14 +1,16 @@
-ghost use Rattle.std.specs.Prelude.{◌≡◌, ◌-◌, ◌<◌, ◌≤◌, length, IfOk};
-ghost use Rattle.store.specs.Calls.{Site};
-ghost use Rattle.store.specs.Limits.{max_slot, max_left, places};
+ghost use Rattle.std.specs.Prelude.{◌≡◌, IfOk};
+ghost use Rattle.store.specs.Calls.{Site, Replaced};
+ghost use Rattle.store.specs.Limits.{max_left};
 ghost use Rattle.store.specs.Meaning.{Empty};
-ghost use Rattle.store.specs.Table.{place_of, held_by, Refilled, table_meaning};
+ghost use Rattle.store.specs.Table.{table_meaning};
 ghost use Rattle.store.specs.Slots.{table_sound};
 
-use super::{PLACES, Table};
+use super::Table;
+use super::held::Held;
+use super::pair::Pair;
 use crate::check::{check_site, check_write};
 use crate::fault::Fault;
-use crate::slot::{MAX_SLOT, Slot};
+use crate::slot::{MAX_SITES, Slot};
 use crate::store::Store;
 use octets::put;
 use std::alloc::{AllocError, Global};
@@ -18,44 +20,25 @@ impl Table {
     pub fn new(heap: Global) -> Result<Table, AllocError>
         ensures { IfOk result (λ t. Empty (table_meaning t)) }
     {
-        Ok(Table {
-            space: vec![in heap; 0; PLACES * MAX_SLOT]?,
-            lengths: [0; PLACES],
-        })
+        let mut sites = Vec::new(heap);
+        sites.resize_with(usize::from(MAX_SITES), Pair::empty)?;
+        Ok(Table { sites })
     }
 
-    // The bytes of the slot in this place.
-    fn held(&self, place: usize) -> &[u8]
-        requires { place < places }
-        ensures { result.now ≡ held_by self.now place }
+    // What a slot holds.
+    fn held(&self, slot: Slot, site: u8) -> &[u8]
+        requires { Site site }
+        ensures { result.now ≡ (table_meaning self.now).slot slot site }
     {
-        let start = MAX_SLOT * place;
-        let end = start + self.lengths[place];
-        &self.space[start..end]
+        self.sites[usize::from(site) - 1].held(slot)
     }
 
-    // Puts other bytes into this place.
-    fn refill(&mut self, place: usize, bytes: &[u8])
-        requires within { place < places }
-        requires short { length bytes.now ≤ max_slot }
-        ensures { Refilled self.old place bytes.now self.new }
+    // Puts other bytes into a slot.
+    fn refill(&mut self, slot: Slot, site: u8, held: Held)
+        requires { Site site }
+        ensures { Replaced (table_meaning self.old) slot site held.bytes.items (table_meaning self.new) }
     {
-        let start = MAX_SLOT * place;
-        let end = start + bytes.len();
-        self.space[start..end].copy_from_slice(bytes);
-        self.lengths[place] = bytes.len();
-    }
-}
-
-// The place of a slot: a site's two stand side by side.
-fn place(slot: Slot, site: u8) -> usize
-    requires { Site site }
-    ensures { result ≡ place_of slot (site - 1) }
-{
-    let first = 2 * (site as usize - 1);
-    match slot {
-        Slot::Value => first,
-        Slot::Version => first + 1,
+        self.sites[usize::from(site) - 1].put(slot, held);
     }
 }
 
@@ -66,8 +49,7 @@ impl Store for Table {
 
     fn read(&self, slot: Slot, site: u8, out: &mut [u8]) -> Result<usize, Fault> {
         check_site(site)?;
-        let held = self.held(place(slot, site));
-        put(out, 0, held).ok_or(Fault::BufferTooShort)
+        put(out, 0, self.held(slot, site)).ok_or(Fault::BufferTooShort)
     }
 
     fn left(&self) -> u32
@@ -78,7 +60,7 @@ impl Store for Table {
 
     fn write(&mut self, slot: Slot, site: u8, bytes: &[u8]) -> Result<(), Fault> {
         check_write(site, bytes, self.left())?;
-        self.refill(place(slot, site), bytes);
+        self.refill(slot, site, Held::of(bytes));
         Ok(())
     }
 }

@@ -1,5 +1,7 @@
-use Rattle.std.proofs.Common.{◌≡◌, ℕ, ◌-◌, ◌≤◌, List, length, take, Some, None, Option, sym, ap, ◌∙◌, arith, rules}
+use Rattle.std.proofs.Common.{◌≡◌, ℕ, ◌-◌, ◌≤◌, List, length, take, Ok, Err, Some, None, Option, Result, sym, ap, ◌∙◌, arith, ◌≢◌}
+use Rattle.std.specs.Array.{IsWholeChunk}
 use Rattle.std.specs.Option.{SomeIff}
+use Rattle.std.specs.Result.{MatchResult, result_ok}
 use Rattle.std.proofs.lemmas.List.{take_all}
 use Rattle.octets.specs.Numbers.{number}
 use Rattle.octets.proofs.Cuts.{each, numeral_rest}
@@ -16,8 +18,13 @@ placed : (g : List ℕ) (serial : ℕ) (r : Option ℕ) → length g ≡ 8 → n
 placed g serial None long is none = λ _. grind (arith, none)
 placed g serial (Some k) long is some = (long, omega (arith, some.0, some.1))
 
-pub returns-in-len8 : goal.returns-in-len8
-returns-in-len8 c =
+-- the array that was made of the bytes
+whole : {E : Type 0} (g b : List ℕ) (r : Result (List ℕ) E) → Some b ≡ result_ok r → MatchResult r (λ y. IsWholeChunk g y 8) (λ _. length g ≢ 8) → (length g ≡ 8) × (b ≡ g)
+whole g b (Ok y) e h = (h.long, grind (arith, h.same))
+whole g b (Err x) e h = grind arith
+
+pub returns : goal.returns
+returns c =
     let g = c.args.signature.now in
-    let long : length g ≡ 8 = search rules in
-    placed g c.from_be_bytes-serial.result c.checked_sub.result long (spelled g _ long (omega (arith, c.from_be_bytes-serial.ensures))) c.checked_sub.ensures
+    let w = whole g c.in_ok-ok.field-0 c.try_from.result c.in_ok-ok.ensures.value c.try_from.ensures.1 in
+    placed g c.from_be_bytes-serial.result c.checked_sub.result w.0 (spelled g _ w.0 (rw (← w.1) (omega (arith, c.from_be_bytes-serial.ensures)))) c.checked_sub.ensures

@@ -12,11 +12,11 @@ returns-in_err-sign g c =
     let last = c.sign.new.out in
     let begin = c.min-begin.result in
     let e = room was last c.args.start begin c.min-begin.ensures in
-    let Why : ℕ → Type 0 = λ n. SignRefused g.S.Scheme.len (g.S.Scheme.means c.args.scheme.now) c.args.site c.args.text.now n c.in_err-sign.field-0.0 in
+    let Why : ℕ → Type 0 = λ n. SignRefused g.S.Scheme.G (g.S.Scheme.means c.args.scheme.now) c.args.site c.args.text.now n c.in_err-sign.field-0.0 in
     rw (p.1, p.2) (subst Why e s.0, s.1, kept was last c.args.start begin c.min-begin.ensures s.2)
 
 pub returns : goal.returns
 returns g c =
     let s = c.in_ok-sign.ensures.signs in
-    let len = g.S.Scheme.len in
+    let len = g.S.Scheme.G in
     (s.0, s.1, signed c.args.out.now c.sign.new.out c.args.start c.min-begin.result c.min-begin.ensures len s.0 _ g.met.S.Scheme.low s.1.fits.sized (omega arith) s.2 s.3)
