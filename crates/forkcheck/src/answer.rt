@@ -1,65 +1,60 @@
 //! A line of text and its answer.
 
-use super::check::check;
+use super::check::{Saved, check};
 use hex_text::decode;
 use std::alloc::{AllocError, Global};
 use std::fmt;
+use std::str::Split;
 use version::{Order, Refusal};
 
-/// What is answered to a line.
-#[derive(Clone, Copy)]
-pub enum Answer {
-    Stands(Order),
-    Refused(Refusal),
+/// Why a line is answered by no order.
+#[derive(Clone, Copy, Debug, PartialEq, Eq)]
+pub enum Failure {
+    /// The line is not `SIZE HEX SIZE HEX`.
     Unknown,
+    /// One of the two is no version, or their groups differ in size.
+    Refused(Refusal),
 }
 
-impl fmt::Display for Answer {
+impl fmt::Display for Failure {
     fn fmt<W: fmt::Write>(&self, f: &mut fmt::Formatter<W>) -> fmt::Result {
         match self {
-            Answer::Stands(Order::Equal) => write!(f, "equal"),
-            Answer::Stands(Order::Below) => write!(f, "below"),
-            Answer::Stands(Order::Above) => write!(f, "above"),
-            Answer::Stands(Order::Apart) => write!(f, "apart"),
-            Answer::Refused(Refusal::BadField(offset)) => write!(f, "refused 7 at {offset}"),
-            Answer::Refused(refusal) => {
+            Failure::Unknown => write!(f, "unknown"),
+            Failure::Refused(Refusal::BadField(offset)) => write!(f, "refused 7 at {offset}"),
+            Failure::Refused(refusal) => {
                 let number = refusal.number();
                 write!(f, "refused {number}")
             }
-            Answer::Unknown => write!(f, "unknown"),
         }
     }
 }
 
 /// The answer to a line `SIZE HEX SIZE HEX`.
-pub fn answer_to(heap: Global, line: &str) -> Result<Answer, AllocError> {
+pub fn answer_to(heap: Global, line: &str) -> Result<Result<Order, Failure>, AllocError> {
     let mut words = line.split(' ');
-    let (Some(a), Some(b), Some(c), Some(d), None) = (
-        words.next(),
-        words.next(),
-        words.next(),
-        words.next(),
+    let (Some(left), Some(right), None) = (
+        saved(heap, &mut words)?,
+        saved(heap, &mut words)?,
         words.next(),
     ) else {
-        return Ok(Answer::Unknown);
+        return Ok(Err(Failure::Unknown));
     };
-    let (Some(left_size), Some(right_size)) = (size(a), size(c)) else {
-        return Ok(Answer::Unknown);
+    Ok(check(&left, &right).map_err(Failure::Refused))
+}
+
+// The version that the next two words name.
+fn saved(heap: Global, words: &mut Split<'_, char>) -> Result<Option<Saved>, AllocError> {
+    let (Some(size), Some(text)) = (words.next(), words.next()) else {
+        return Ok(None);
     };
-    let (Some(left), Some(right)) = (decode(heap, b.as_bytes())?, decode(heap, d.as_bytes())?)
-    else {
-        return Ok(Answer::Unknown);
+    let (Some(size), Some(bytes)) = (parse_size(size), decode(heap, text.as_bytes())?) else {
+        return Ok(None);
     };
-    match check(left_size, &left, right_size, &right) {
-        Ok(order) => Ok(Answer::Stands(order)),
-        Err(refusal) => Ok(Answer::Refused(refusal)),
-    }
+    Ok(Some(Saved { size, bytes }))
 }
 
 // A group's size; a number too large for any group is as good as 0, which is none either.
-fn size(word: &str) -> Option<u8> {
-    let Ok(n) = word.parse::<u64>() else {
-        return None;
-    };
-    Some(u8::try_from(n).unwrap_or(0))
+fn parse_size(word: &str) -> Option<u8> {
+    let size = word.parse::<u64>().ok()?;
+    Some(u8::try_from(size).unwrap_or(0))
 }

@@ -1,14 +1,31 @@
 //! The comparison itself, on values.
 
+ghost use Rattle.std.specs.Prelude.{vec_items};
 ghost use Rattle.forkcheck.specs.Check.{Checks};
+ghost use Rattle.version.specs.Calls.{Reads};
 
 use version::{Order, Refusal, Version};
 
-/// How the version that `left` spells stands to the one that `right` spells, each of a group of so many sites.
-pub fn check(left_size: u8, left: &[u8], right_size: u8, right: &[u8]) -> Result<Order, Refusal>
-    ensures { Checks left_size left.now right_size right.now result }
+/// Bytes that are to be a version of a group of `size` sites.
+#[derive(Drop)]
+pub struct Saved {
+    pub size: u8,
+    pub bytes: Vec<u8>,
+}
+
+impl Saved {
+    fn version(&self) -> Result<Version, Refusal>
+        ensures { Reads self.now.size (vec_items self.now.bytes) result }
+    {
+        Version::read(self.size, &self.bytes)
+    }
+}
+
+/// How the version that `left` holds stands to the one that `right` holds.
+pub fn check(left: &Saved, right: &Saved) -> Result<Order, Refusal>
+    ensures { Checks left.now.size (vec_items left.now.bytes) right.now.size (vec_items right.now.bytes) result }
 {
-    let left = Version::read(left_size, left)?;
-    let right = Version::read(right_size, right)?;
+    let left = left.version()?;
+    let right = right.version()?;
     left.compare(&right)
 }

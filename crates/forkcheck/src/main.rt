@@ -11,8 +11,10 @@ use std::io::{BufRead, BufReader};
 fn main(rt: HostRuntime) -> io::Result<()> {
     for line in BufReader::new(rt.alloc(), rt.stdin())?.lines(rt.alloc()) {
         let line = line?;
-        let answer = answer_to(rt.alloc(), &line)?;
-        println!(rt; "{answer}")?;
+        match answer_to(rt.alloc(), &line)? {
+            Ok(order) => println!(rt; "{order}")?,
+            Err(failure) => println!(rt; "{failure}")?,
+        }
     }
     Ok(())
 }

@@ -1,4 +1,3 @@
-mod Shapes
 pub mod SlotLaws
 pub mod OrderLaws
 pub mod LayoutLaws

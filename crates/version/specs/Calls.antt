@@ -1,7 +1,6 @@
 -- What each call answers and changes.
 use Rattle.std.specs.Prelude.{◌≡◌, ℕ, ◌+◌, ◌-◌, ◌*◌, ◌<◌, ◌≤◌, List, ◌++◌, length, drop, replicate, Some, Ok, Err, Option, Result, ◌≢◌, slice_set}
-use Rattle.octets.specs.declared.BadField.{BadField}
-use Rattle.octets.specs.Field.{good, bad, read}
+use Rattle.octets.specs.Field.{read}
 use Rattle.version.specs.declared.order.Order.{Order}
 use Rattle.version.specs.declared.refusal.Refusal.{Refusal}
 use Rattle.version.specs.declared.refusal.Refusal.TheVariants.{OutOfRange, TimestampLimit, BadField as BadAt, BufferTooShort}
@@ -56,11 +55,6 @@ Reads n bs (Err OutOfRange) = Size n → ⊥
 Reads n bs (Err TimestampLimit) = ⊥
 Reads n bs (Err (BadAt offset)) = Size n × (read (version_field n) bs ≡ Err offset)
 Reads n bs (Err BufferTooShort) = ⊥
-
--- a version of a group of n sites from the front of the bytes, and the number of bytes behind it
-abbrev pub Takes : ℕ → List ℕ → Result (Version × ℕ) BadField → Type 0
-Takes n bs (Ok p) = (length (slots p.0) ≡ n) × (p.1 ≤ length bs) × ((version_field n).get bs ≡ good (slots p.0) (drop (length bs - p.1) bs))
-Takes n bs (Err e) = (version_field n).get bs ≡ bad e.left
 
 -- the bytes of a version
 abbrev pub bytes_of : Version → List ℕ

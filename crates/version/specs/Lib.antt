@@ -4,5 +4,7 @@ pub mod Layout
 pub mod Refusals
 pub mod Version
 pub mod Calls
+pub mod Compared
+pub mod ComparedLaws
 pub mod Examples
 pub mod Steps

@@ -1,5 +1,7 @@
 -- Versions and their order.
-use Rattle.std.specs.Prelude.{◌≡◌, ℕ, ◌<◌, ◌≤◌, Bool, true, false, List, length, None, Option, ◌≢◌, slice_index_or}
+use Rattle.std.specs.Prelude.{◌≡◌, ℕ, ◌<◌, ◌≤◌, List, length, Some, None, Option, ◌≢◌, codes, slice_index_or}
+use Rattle.std.specs.declared.cmp.Ordering.{Ordering}
+use Rattle.std.specs.declared.cmp.Ordering.TheVariants.{Less, Equal as Same, Greater}
 use Rattle.version.specs.declared.order.Order.{Order}
 use Rattle.version.specs.declared.order.Order.TheVariants.{Equal, Below, Above, Apart}
 
@@ -36,12 +38,19 @@ Stands R a b Below = R a b × (a ≢ b)
 Stands R a b Above = R b a × (a ≢ b)
 Stands R a b Apart = (R a b → ⊥) × (R b a → ⊥)
 
--- the answer, where it is known whether each is at or below the other
-abbrev pub order_by : Bool → Bool → Order
-order_by true true = Equal
-order_by true false = Below
-order_by false true = Above
-order_by false false = Apart
+-- the answer that a comparison stands for, of values of which neither may be at or below the other
+abbrev pub order_of : Option Ordering → Order
+order_of (Some Same) = Equal
+order_of (Some Less) = Below
+order_of (Some Greater) = Above
+order_of None = Apart
+
+-- the answer as text
+abbrev pub word_of : Order → List ℕ
+word_of Equal = codes "equal"
+word_of Below = codes "below"
+word_of Above = codes "above"
+word_of Apart = codes "apart"
 
 -- a relation that is a partial order
 pub record PartialOrder {A : Type 0} (R : A → A → Type 0) : Type 0 where

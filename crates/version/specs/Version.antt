@@ -1,12 +1,18 @@
 -- The version that a value of the code stands for.
-use Rattle.std.specs.Prelude.{◌≡◌, ℕ, List, map, None, slice_index, slice_index_or}
+use Rattle.std.specs.Prelude.{◌≡◌, ℕ, List, map, Some, None, Option, slice_index_or}
 use Rattle.std.specs.List.{range_with_len}
+use Rattle.version.specs.declared.seen.Seen.{Seen}
 use Rattle.version.specs.declared.version.Version.{Version}
-use Rattle.version.specs.Order.{Slot, slot_with}
+use Rattle.version.specs.Order.{Slot, slot_with, unseen}
+
+-- what is said of a site by what has been seen of it
+abbrev pub slot_from : Option Seen → Slot
+slot_from None = unseen
+slot_from (Some seen) = slot_with seen.timestamp (Some seen.digest)
 
 -- what it says of the site k + 1
 abbrev pub slot_of : Version → ℕ → Slot
-slot_of v k = slot_with (slice_index v.timestamps k) (slice_index_or v.digests k None)
+slot_of v k = slot_from (slice_index_or v.seen k None)
 
 unfoldable pub slots : Version → List Slot
 slots v = map (slot_of v) (range_with_len 0 v.size)

@@ -1,15 +1,16 @@
 //! How two versions stand to each other.
 
-ghost use Rattle.std.specs.Prelude.{◌≡◌, ℕ, ◌<◌, ◌≤◌, Decides};
+ghost use Rattle.std.specs.Prelude.{◌≡◌};
 ghost use Rattle.version.specs.Calls.{Compares};
+ghost use Rattle.version.specs.Compared.{compared, under};
 ghost use Rattle.version.specs.Examples.{Examples};
-ghost use Rattle.version.specs.Order.{PartialOrder, AtOrBelow, SlotAtOrBelow, order_by};
-ghost use Rattle.version.specs.Version.{slot_of, OneForm};
+ghost use Rattle.version.specs.Order.{PartialOrder, AtOrBelow, Stands, order_of};
+ghost use Rattle.version.specs.Version.{OneForm, slots};
 
 use super::order::Order;
 use super::refusal::Refusal;
 use super::version::Version;
-use octets::same;
+use std::cmp::Ordering;
 
 impl Version {
     /// How this version stands to `other`, a version of the same group size.
@@ -25,54 +26,34 @@ impl Version {
         if self.size != other.size {
             return Err(Refusal::OutOfRange);
         }
-        let size = self.size as usize;
-        let mut below = true;
-        let mut above = true;
-        for place in 0..size {
-            let (is_below, is_above) = compare_slots(self, other, place);
-            below &= is_below;
-            above &= is_above;
+        Ok(Order::from(self.partial_cmp(other)))
+    }
+
+    fn is_at_or_below(&self, other: &Version) -> bool
+        ensures { result ≡ under self.now other.now }
+    {
+        self.size == other.size && self.seen.iter().zip(other.seen.iter()).all(|(a, b)| a <= b)
+    }
+}
+
+impl PartialOrd for Version {
+    ghost use Rattle.version.specs.ComparedLaws.{version_order};
+
+    ghost partial_cmp = { compared };
+
+    ghost laws = { version_order };
+
+    /// `None` where neither is at or below the other, as where the groups are of different sizes.
+    #[tactic(auto, unfolding(crate::specs::Compared::compared))]
+    fn partial_cmp(&self, other: &Version) -> Option<Ordering>
+        ensures value { result ≡ compared self.now other.now }
+        ensures stands { Stands AtOrBelow (slots self.now) (slots other.now) (order_of result) }
+    {
+        match (self.is_at_or_below(other), other.is_at_or_below(self)) {
+            (true, true) => Some(Ordering::Equal),
+            (true, false) => Some(Ordering::Less),
+            (false, true) => Some(Ordering::Greater),
+            (false, false) => None,
         }
-        Ok(order_by(below, above))
-    }
-}
-
-// Whether the left version's slot is at or below the right one's, and the right one's at or below the left one's.
-fn compare_slots(left: &Version, right: &Version, place: usize) -> (bool, bool)
-    requires { place < 8 }
-    ensures below { Decides result.0 (SlotAtOrBelow (slot_of left.now place) (slot_of right.now place)) }
-    ensures above { Decides result.1 (SlotAtOrBelow (slot_of right.now place) (slot_of left.now place)) }
-{
-    let l = left.timestamp_at(place);
-    let r = right.timestamp_at(place);
-    if l < r {
-        return (true, false);
-    }
-    if r < l {
-        return (false, true);
-    }
-    let told = same_digest(left.digest_at(place), right.digest_at(place));
-    (told, told)
-}
-
-fn same_digest(a: &Option<[u8; 32]>, b: &Option<[u8; 32]>) -> bool
-    ensures { Decides result (a.now ≡ b.now) }
-{
-    match (a, b) {
-        (Some(a), Some(b)) => same(a, b),
-        (None, None) => true,
-        _ => false,
-    }
-}
-
-// The answer of two versions of which each may be at or below the other.
-fn order_by(below: bool, above: bool) -> Order
-    ensures { result ≡ order_by below above }
-{
-    match (below, above) {
-        (true, true) => Order::Equal,
-        (true, false) => Order::Below,
-        (false, true) => Order::Above,
-        (false, false) => Order::Apart,
     }
 }

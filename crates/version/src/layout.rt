@@ -4,14 +4,15 @@ ghost use Rattle.std.specs.Prelude.{◌≡◌, ℕ, ◌<◌, length};
 ghost use Rattle.octets.specs.Field.{Undoes};
 ghost use Rattle.octets.specs.Puts.{PutsOrNot};
 ghost use Rattle.octets.specs.Reads.{Gets};
-ghost use Rattle.version.specs.Calls.{Reads, Takes, Writes, bytes_of};
-ghost use Rattle.version.specs.Layout.{all_zero, digest_field, version_field};
-ghost use Rattle.version.specs.Version.{slots};
-ghost use Rattle.version.specs.Steps.{ToldDigest, PutsSlot};
+ghost use Rattle.version.specs.Calls.{Reads, Writes, bytes_of};
+ghost use Rattle.version.specs.Layout.{slot_field, version_field};
+ghost use Rattle.version.specs.Version.{slots, slot_from};
+ghost use Rattle.version.specs.Steps.{PutsSlot};
 
 use super::refusal::Refusal;
+use super::seen::Seen;
 use super::version::Version;
-use octets::{BadField, put, put_u32, take_span, take_u32};
+use octets::{BadField, put, put_number, take_number};
 
 impl Version {
     /// Reads bytes that are to be a version of a group of `size` sites and nothing else.
@@ -19,33 +20,25 @@ impl Version {
         ensures reads { Reads size bytes.now result }
         ensures undoes { Undoes (version_field size) }
     {
-        let total = bytes.len();
-        match Version::zero(size)?.take(bytes) {
-            Ok(found) => {
-                let (version, left) = found;
-                if left > 0 {
-                    return Err(Refusal::BadField(total.saturating_sub(left)));
-                }
-                Ok(version)
-            }
-            Err(bad) => Err(Refusal::BadField(total.saturating_sub(bad.left))),
-        }
+        let left = match Version::zero(size)?.take(bytes) {
+            Ok((version, [])) => return Ok(version),
+            Ok((_, rest)) => rest.len(),
+            Err(bad) => bad.left,
+        };
+        Err(Refusal::BadField(bytes.len().saturating_sub(left)))
     }
 
-    /// Takes another version of this one's group from the front of `bytes`, and answers it with the number of bytes that
-    /// are left behind it.
-    pub fn take(mut self, bytes: &[u8]) -> Result<(Version, usize), BadField>
-        ensures { Takes (length (slots self)) bytes.now result }
+    /// Takes another version of this one's group from the front of `bytes`, and answers it with the rest.
+    pub fn take(self, bytes: &[u8]) -> Result<(Version, &[u8]), BadField>
+        ensures { Gets (version_field (length (slots self))) slots bytes.now result }
     {
-        let size = self.size as usize;
+        let mut seen = [None; 8];
         let mut rest = bytes;
-        for place in 0..size {
-            let (timestamp, behind) = take_u32(rest)?;
-            let (digest, behind) = take_digest(timestamp, behind)?;
-            self.set(place, timestamp, digest);
-            rest = behind;
+        for slot in &mut seen[..self.size as usize] {
+            (*slot, rest) = take_slot(rest)?;
         }
-        Ok((self, rest.len()))
+        let size = self.size;
+        Ok((Version { size, seen }, rest))
     }
 
     /// Writes the version to the front of `out` and answers how many bytes it took.
@@ -65,48 +58,40 @@ impl Version {
             return None;
         }
         let mut at = start;
-        for place in 0..size {
-            at = self.put_slot(place, out, at)?;
+        for slot in &self.seen[..size] {
+            at = put_slot(slot, out, at)?;
         }
         Some(at)
     }
-
-    fn put_slot(&self, place: usize, out: &mut [u8], start: usize) -> Option<usize>
-        requires { place < 8 }
-        ensures { PutsSlot self.now place start out.old out.new result }
-    {
-        let at = put_u32(out, start, self.timestamp_at(place))?;
-        match self.digest_at(place) {
-            Some(digest) => put(out, at, digest),
-            None => put(out, at, &[0; 32]),
-        }
-    }
 }
 
-// The digest at a timestamp, and the rest.
-fn take_digest(timestamp: u32, bytes: &[u8]) -> Result<(Option<[u8; 32]>, &[u8]), BadField>
-    ensures got { Gets (digest_field timestamp) (λ d. d) bytes.now result }
-    ensures told { ToldDigest timestamp result }
+// A slot from the front of the bytes, and the rest.
+fn take_slot(bytes: &[u8]) -> Result<(Option<Seen>, &[u8]), BadField>
+    ensures { Gets slot_field slot_from bytes.now result }
 {
-    let (span, rest) = take_span(bytes, 32)?;
-    if timestamp == 0 {
-        if !zeros(span) {
-            return Err(BadField { left: bytes.len() });
-        }
-        return Ok((None, rest));
+    let (timestamp, behind) = take_number::<4, u32>(bytes)?;
+    let bad = BadField { left: behind.len() };
+    let Some((digest, rest)) = behind.split_first_chunk::<32>() else {
+        return Err(bad);
+    };
+    if timestamp > 0 {
+        let digest = *digest;
+        return Ok((Some(Seen { timestamp, digest }), rest));
     }
-    let mut digest = [0; 32];
-    digest.copy_from_slice(span);
-    Ok((Some(digest), rest))
+    if *digest != [0; 32] {
+        return Err(bad);
+    }
+    Ok((None, rest))
 }
 
-fn zeros(bytes: &[u8]) -> bool
-    ensures { result ≡ all_zero bytes.now }
+fn put_slot(slot: &Option<Seen>, out: &mut [u8], start: usize) -> Option<usize>
+    ensures { PutsSlot slot.now start out.old out.new result }
 {
-    for b in bytes {
-        if *b != 0 {
-            return false;
+    match slot {
+        Some(seen) => {
+            let at = put_number(out, start, seen.timestamp)?;
+            put(out, at, &seen.digest)
         }
+        None => put(out, start, &[0; 36]),
     }
-    true
 }

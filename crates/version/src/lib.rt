@@ -5,6 +5,7 @@ mod compare;
 mod layout;
 mod order;
 mod refusal;
+mod seen;
 mod slots;
 mod version;
 

@@ -1,12 +1,12 @@
 //! What a version says of each site.
 
-ghost use Rattle.std.specs.Prelude.{◌≡◌, ℕ, ◌-◌, ◌<◌, ◌≤◌, Bool, length, is_some, None, nat_lt, slice_index, slice_index_or, slice_set};
+ghost use Rattle.std.specs.Prelude.{◌≡◌, length};
 ghost use Rattle.version.specs.Calls.{Zero, Timestamp, Digest, Raises, Placed};
-ghost use Rattle.version.specs.Order.{slot_with};
-ghost use Rattle.version.specs.Shape.{Size, digest_bytes};
+ghost use Rattle.version.specs.Shape.{Size};
 ghost use Rattle.version.specs.Version.{slots};
 
 use super::refusal::Refusal;
+use super::seen::Seen;
 use super::version::Version;
 
 /// The most sites that a group can have.
@@ -22,12 +22,12 @@ impl Version {
         }
         Ok(Version {
             size,
-            timestamps: [0; 8],
-            digests: [None; 8],
+            seen: [None; 8],
         })
     }
 
     /// How many sites the group has.
+    #[tactic(auto, using(crate::proofs::SlotLaws::slots_length))]
     pub fn size(&self) -> u8
         ensures value { result ≡ length (slots self.now) }
         ensures range { Size result }
@@ -40,7 +40,7 @@ impl Version {
         ensures { Timestamp self.now site result }
     {
         let place = self.place(site)?;
-        Ok(self.timestamp_at(place))
+        Ok(self.seen[place].map_or(0, Seen::timestamp))
     }
 
     /// The digest of the view history up to the last of them, and none where there are none.
@@ -48,7 +48,7 @@ impl Version {
         ensures { Digest self.now site result }
     {
         let place = self.place(site)?;
-        Ok(*self.digest_at(place))
+        Ok(self.seen[place].map(Seen::digest))
     }
 
     /// Counts one operation more of `site`; `history` is the digest of the view history that it ends.
@@ -56,26 +56,17 @@ impl Version {
         ensures { Raises self.old site history self.new result }
     {
         let place = self.place(site)?;
-        let Some(timestamp) = self.timestamps[place].checked_add(1) else {
-            return Err(Refusal::TimestampLimit);
-        };
-        self.set(place, timestamp, Some(history));
+        let count = self.seen[place].map_or(0, Seen::timestamp);
+        let timestamp = count.checked_add(1).ok_or(Refusal::TimestampLimit)?;
+        self.seen[place] = Some(Seen {
+            timestamp,
+            digest: history,
+        });
         Ok(())
     }
 
-    // Puts another slot into its place.
-    pub(crate) fn set(&mut self, place: usize, timestamp: u32, digest: Option<[u8; 32]>)
-        requires within { place < self.old.size }
-        requires told { is_some digest ≡ nat_lt 0 timestamp }
-        requires wide { length (digest_bytes digest) ≡ 32 }
-        ensures size { self.new.size ≡ self.old.size }
-        ensures slots { slots self.new ≡ slice_set (slots self.old) place (slot_with timestamp digest) }
-    {
-        self.timestamps[place] = timestamp;
-        self.digests[place] = digest;
-    }
-
     // where a site's slot stands
+    #[tactic(auto, using(crate::proofs::SlotLaws::slots_length))]
     fn place(&self, site: u8) -> Result<usize, Refusal>
         ensures { Placed self.now site result }
     {
@@ -83,19 +74,5 @@ impl Version {
             return Err(Refusal::OutOfRange);
         }
         Ok(site as usize - 1)
-    }
-
-    pub(crate) fn timestamp_at(&self, place: usize) -> u32
-        requires { place < 8 }
-        ensures { result ≡ slice_index self.now.timestamps place }
-    {
-        self.timestamps[place]
-    }
-
-    pub(crate) fn digest_at(&self, place: usize) -> &Option<[u8; 32]>
-        requires { place < 8 }
-        ensures { result.now ≡ slice_index_or self.now.digests place None }
-    {
-        &self.digests[place]
     }
 }

@@ -1,8 +1,8 @@
-use Rattle.std.proofs.Common.{◌≡◌, take}
+use Rattle.std.proofs.Common.{map, take}
 use Rattle.octets.proofs.Loops.{Left}
 use Rattle.version.specs.Layout.{slot_field}
-use Rattle.version.specs.Version.{slots}
+use Rattle.version.specs.Version.{slot_from}
 use Rattle.version.proofs.version.Version.take.Given as goal
 
-abbrev pub invariant-loop-place : goal.invariant-loop-place
-invariant-loop-place l = (l.self.size ≡ l.initial.self.size) × Left slot_field l.initial.self.size l.bytes l.place (take l.place (slots l.self)) l.rest
+abbrev pub invariant-loop-slot : goal.invariant-loop-slot
+invariant-loop-slot l = Left slot_field l.self.size l.bytes l.slot-index (map slot_from (take l.slot-index l.slot-items)) l.rest

@@ -1,8 +1,5 @@
-use Rattle.std.proofs.Common.{ap, ◌∙◌}
-use Rattle.version.proofs.SlotLaws.{slot_here}
+use Rattle.version.proofs.SlotLaws.{stamp_read}
 use Rattle.version.proofs.version.Version.timestamp.Goals as goal
 
 pub returns : goal.returns
-returns c =
-    let p = c.in_ok-place.ensures in
-    (p.0, c.timestamp_at.ensures ∙ ap (λ s. s.timestamp) (slot_here c.args.self.now c.args.site _ p.0 p.1))
+returns c = let p = c.in_ok-place.ensures in (p.0, stamp_read c.args.self.now c.args.site _ _ p.0 p.1 p.2 c.map_or.result c.map_or.ensures)
