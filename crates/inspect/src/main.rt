@@ -3,7 +3,6 @@
 #![tactic(auto)]
 
 mod line;
-mod parts;
 mod show;
 
 use line::answer;

@@ -1,107 +1,163 @@
-//! The text of whole messages, field by field.
+//! What stands in a line for a message and for its parts.
 
-use super::parts::{code, signature, value, version};
-use message::{Commit, Entry, Found, Reply, Submit, ValueSlot, VersionSlot};
-use std::alloc::{AllocError, Global};
+use message::{Code, Commit, Entry, Found, Reply, Submit, ValueSlot, VersionSlot};
+use std::fmt;
+use version::{MAX_SITES, Version};
 
-pub fn show_submit(heap: Global, g: usize, bytes: &[u8], m: &Submit) -> Result<String, AllocError> {
-    let site = m.site;
-    let what = code(m.code);
-    let register = m.register;
-    let timestamp = m.timestamp;
-    let first = signature(heap, g, bytes, m.submit_signature)?;
-    let value = value(heap, bytes, m.value)?;
-    let second = signature(heap, g, bytes, m.data_signature)?;
-    format!(in heap; "submit {site} {what} {register} {timestamp} {first} {value} {second}")
+// The most bytes that a version has.
+const VERSION_SIZE: usize = 36 * MAX_SITES as usize;
+
+/// A message or a part of one, as it is shown.
+#[derive(Clone, Copy)]
+pub struct Shown<M>(pub M);
+
+impl fmt::Display for Shown<Submit<'_>> {
+    fn fmt<W: fmt::Write>(&self, f: &mut fmt::Formatter<W>) -> fmt::Result {
+        let m = self.0;
+        write!(
+            f,
+            "submit {} {} {} {} {} {} {}",
+            m.site,
+            Shown(m.code),
+            m.register,
+            m.timestamp,
+            Shown(m.submit_signature),
+            Shown(m.value),
+            Shown(m.data_signature)
+        )
+    }
 }
 
-pub fn show_commit(heap: Global, g: usize, bytes: &[u8], m: &Commit) -> Result<String, AllocError> {
-    let site = m.site;
-    let version = version(heap, &m.version)?;
-    let first = signature(heap, g, bytes, m.commit_signature)?;
-    let second = signature(heap, g, bytes, m.proof_signature)?;
-    format!(in heap; "commit {site} {version} {first} {second}")
+impl fmt::Display for Shown<Commit<'_>> {
+    fn fmt<W: fmt::Write>(&self, f: &mut fmt::Formatter<W>) -> fmt::Result {
+        let m = self.0;
+        write!(
+            f,
+            "commit {} {} {} {}",
+            m.site,
+            Shown(m.version),
+            Shown(m.commit_signature),
+            Shown(m.proof_signature)
+        )
+    }
 }
 
-pub fn show_value_slot(
-    heap: Global,
-    g: usize,
-    bytes: &[u8],
-    m: &ValueSlot,
-) -> Result<String, AllocError> {
-    let timestamp = m.timestamp;
-    let value = value(heap, bytes, m.value)?;
-    let first = signature(heap, g, bytes, m.data_signature)?;
-    format!(in heap; "value-slot {timestamp} {value} {first}")
+impl fmt::Display for Shown<ValueSlot<'_>> {
+    fn fmt<W: fmt::Write>(&self, f: &mut fmt::Formatter<W>) -> fmt::Result {
+        let m = self.0;
+        write!(
+            f,
+            "value-slot {} {} {}",
+            m.timestamp,
+            Shown(m.value),
+            Shown(m.data_signature)
+        )
+    }
 }
 
-pub fn show_version_slot(
-    heap: Global,
-    g: usize,
-    bytes: &[u8],
-    m: &VersionSlot,
-) -> Result<String, AllocError> {
-    let version = version(heap, &m.version)?;
-    let first = signature(heap, g, bytes, m.commit_signature)?;
-    let second = signature(heap, g, bytes, m.proof_signature)?;
-    format!(in heap; "version-slot {version} {first} {second}")
+impl fmt::Display for Shown<VersionSlot<'_>> {
+    fn fmt<W: fmt::Write>(&self, f: &mut fmt::Formatter<W>) -> fmt::Result {
+        let m = self.0;
+        write!(
+            f,
+            "version-slot {} {} {}",
+            Shown(m.version),
+            Shown(m.commit_signature),
+            Shown(m.proof_signature)
+        )
+    }
 }
 
-pub fn show_reply(
-    heap: Global,
-    n: u8,
-    g: usize,
-    bytes: &[u8],
-    m: &Reply,
-) -> Result<String, AllocError> {
-    let what = code(m.code);
-    let committer = m.committer;
-    let version = version(heap, &m.version)?;
-    let first = signature(heap, g, bytes, m.commit_signature)?;
-    let mut text = format!(in heap; "reply {what} {committer} {version} {first}")?;
-    for (k, entry) in m.entries.items.iter().enumerate() {
-        if k < m.entries.count {
-            push_entry(heap, g, bytes, entry, &mut text)?;
+impl fmt::Display for Shown<Reply<'_>> {
+    fn fmt<W: fmt::Write>(&self, f: &mut fmt::Formatter<W>) -> fmt::Result {
+        let m = self.0;
+        write!(
+            f,
+            "reply {} {} {} {}",
+            Shown(m.code()),
+            m.committer,
+            Shown(m.version),
+            Shown(m.commit_signature)
+        )?;
+        for entry in m.entries.as_slice() {
+            write!(f, " entry {}", Shown(*entry))?;
+        }
+        let mut rest = m.proofs;
+        for _ in 0..m.version.size() {
+            let (proof, behind) = rest.split_at(rest.len().min(m.commit_signature.len()));
+            write!(f, " proof {}", Shown(proof))?;
+            rest = behind;
+        }
+        match m.found {
+            Some(found) => write!(f, " found {}", Shown(found)),
+            None => Ok(()),
         }
     }
-    for k in 0..n as usize {
-        let proof = signature(heap, g, bytes, m.proofs.saturating_add(g.saturating_mul(k)))?;
-        text.push_str(" proof ")?;
-        text.push_str(&proof)?;
-    }
-    if let Some(found) = m.found {
-        push_found(heap, g, bytes, &found, &mut text)?;
-    }
-    Ok(text)
 }
 
-fn push_entry(
-    heap: Global,
-    g: usize,
-    bytes: &[u8],
-    m: &Entry,
-    text: &mut String,
-) -> Result<(), AllocError> {
-    let site = m.site;
-    let what = code(m.code);
-    let register = m.register;
-    let first = signature(heap, g, bytes, m.signature)?;
-    let more = format!(in heap; " entry {site} {what} {register} {first}")?;
-    text.push_str(&more)
+impl fmt::Display for Shown<Entry<'_>> {
+    fn fmt<W: fmt::Write>(&self, f: &mut fmt::Formatter<W>) -> fmt::Result {
+        let m = self.0;
+        write!(
+            f,
+            "{} {} {} {}",
+            m.site,
+            Shown(m.code),
+            m.register,
+            Shown(m.signature)
+        )
+    }
 }
 
-fn push_found(
-    heap: Global,
-    g: usize,
-    bytes: &[u8],
-    m: &Found,
-    text: &mut String,
-) -> Result<(), AllocError> {
-    let version = version(heap, &m.version)?;
-    let first = signature(heap, g, bytes, m.commit_signature)?;
-    let timestamp = m.timestamp;
-    let value = value(heap, bytes, m.value)?;
-    let second = signature(heap, g, bytes, m.data_signature)?;
-    let more = format!(in heap; " found {version} {first} {timestamp} {value} {second}")?;
-    text.push_str(&more)
+impl fmt::Display for Shown<Found<'_>> {
+    fn fmt<W: fmt::Write>(&self, f: &mut fmt::Formatter<W>) -> fmt::Result {
+        let m = self.0;
+        write!(
+            f,
+            "{} {} {} {} {}",
+            Shown(m.version),
+            Shown(m.commit_signature),
+            m.timestamp,
+            Shown(m.value),
+            Shown(m.data_signature)
+        )
+    }
+}
+
+impl fmt::Display for Shown<Code> {
+    fn fmt<W: fmt::Write>(&self, f: &mut fmt::Formatter<W>) -> fmt::Result {
+        match self.0 {
+            Code::Read => write!(f, "read"),
+            Code::Write => write!(f, "write"),
+        }
+    }
+}
+
+impl fmt::Display for Shown<Version> {
+    fn fmt<W: fmt::Write>(&self, f: &mut fmt::Formatter<W>) -> fmt::Result {
+        let mut room = [0; VERSION_SIZE];
+        let size = self.0.write(&mut room).unwrap_or(0).min(VERSION_SIZE);
+        write!(f, "{}", Shown(&room[..size]))
+    }
+}
+
+impl fmt::Display for Shown<Option<&[u8]>> {
+    fn fmt<W: fmt::Write>(&self, f: &mut fmt::Formatter<W>) -> fmt::Result {
+        match self.0 {
+            Some(value) => write!(f, "{}", Shown(value)),
+            None => write!(f, "absent"),
+        }
+    }
+}
+
+impl fmt::Display for Shown<&[u8]> {
+    fn fmt<W: fmt::Write>(&self, f: &mut fmt::Formatter<W>) -> fmt::Result {
+        if self.0.is_empty() {
+            return write!(f, ".");
+        }
+        for byte in self.0 {
+            write!(f, "{byte:02x}")?;
+        }
+        Ok(())
+    }
 }

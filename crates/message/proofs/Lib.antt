@@ -1,7 +1,7 @@
-mod Placing
 pub mod Laws
 mod Ending
 mod Joining
+mod Placing
+mod Replying
 pub mod Tags
 mod Writing
-mod Replying

@@ -1,9 +1,10 @@
 -- The parts of a reply.
-use Rattle.std.proofs.Common.{◌≡◌, ℕ, zero, suc, ◌+◌, ◌-◌, ◌*◌, ◌^◌, ◌<◌, ◌≤◌, min, List, [], ◌∷◌, ◌++◌, map, length, get_or, take, drop, Some, None, Option, unwrap_or, sym, ap, ◌∙◌, ⊎_elim, mul-zero, zero-add, mul-suc, arith}
+use Rattle.std.proofs.Common.{◌≡◌, ℕ, zero, suc, ◌+◌, ◌-◌, ◌*◌, ◌^◌, ◌<◌, ◌≤◌, min, List, [], ◌++◌, map, length, get_or, take, drop, Some, None, Option, unwrap_or, sym, ap, ◌∙◌, ⊎_elim, mul-zero, zero-add, mul-suc, arith}
 use native.Mathlib.Nat.{min-le_left, min-eq_left, min-eq_right}
 use Rattle.std.specs.Option.{option_map}
+use Rattle.std.proofs.Math.Seq.{take-add}
 use Rattle.std.proofs.lemmas.List.FromFn.{map-range_with_len_more}
-use Rattle.std.proofs.lemmas.List.{take_more, take_all, take_at, map_push, length-map, length-take}
+use Rattle.std.proofs.lemmas.List.{append-nil, take_more, take_all, take_at, map_push, length-map, length-take}
 use Rattle.std.proofs.lemmas.Bool.{cases_lt}
 use Rattle.octets.specs.Field.{put_all, span}
 use Rattle.octets.specs.Numbers.{big_endian}
@@ -12,27 +13,25 @@ use Rattle.octets.proofs.Places.{◌⨾◌, puts_length, put_all-push}
 use Rattle.version.specs.Calls.{bytes_of}
 use Rattle.version.specs.Version.{slots}
 use Rattle.message.specs.declared.code.Code.TheVariants.{Read}
-use Rattle.message.specs.declared.reply_parts.FoundParts.{FoundParts}
+use Rattle.message.specs.declared.reply.Found.{Found}
 use Rattle.message.specs.declared.reply_parts.ListEntry.{ListEntry}
 use Rattle.message.specs.declared.reply_parts.ReplyParts.{ReplyParts}
 use Rattle.message.specs.Code.{code_number}
 use Rattle.message.specs.Fields.{value}
 use Rattle.message.specs.Places.{bytes_at}
-use Rattle.message.specs.Reply.{entry, found, reply, signatures}
-use Rattle.message.specs.Replied.{entered, holding, asked, responded, answer_put, entries_put, proofs_put, PutsEntry, PutsEntries}
+use Rattle.message.specs.Reply.{asked, entry, found, held, reply, signatures}
+use Rattle.message.specs.Replied.{entered, responded, answer_put, entries_put, proofs_put, PutsEntry, PutsEntries}
 use Rattle.message.proofs.Writing.{value_put}
 
 -- an entry is its fields and then its signature
 pub entry_put : (g : ℕ) (e : ListEntry) (head : List ℕ) (start m : ℕ) (was mid is : List ℕ) (r : Option ℕ) → g ≤ 64
     → head ≡ big_endian 1 e.site ++ (big_endian 1 (code_number e.code) ++ big_endian 1 e.register)
-    → Puts head start was mid m → PutsOrNot (take (g - 0) e.signature) m mid is r → PutsEntry g e start was is r
-entry_put g e head start m was mid is (Some end) l h p q =
-    let z : g - 0 ≡ g = omega arith in
-    rw h at (p ⨾ rw z at q)
+    → Puts head start was mid m → PutsOrNot (take g e.signature) m mid is r → PutsEntry g e start was is r
+entry_put g e head start m was mid is (Some end) l h p q = rw h at (p ⨾ q)
 entry_put g e head start m was mid is None l h p q =
     let k = ap length h in
-    let t = length-take (g - 0) e.signature in
-    let u = min-le_left (g - 0) (length e.signature) in
+    let t = length-take g e.signature in
+    let u = min-le_left g (length e.signature) in
     let a = p.ends in
     let s = q.0 in
     let w = puts_length p in
@@ -66,15 +65,14 @@ pub list_all : (g : ℕ) (es : List ListEntry) (i : ℕ) → length es ≤ i →
 list_all g es i h = ap (λ (l : List ListEntry). put_all (entry 0 g) (map (entered g) l)) (take_all i es h)
 
 -- the entries at the front of a buffer that holds eight of them
-pub first_eight : (es : List ListEntry) (k : ℕ) → k ≡ min (length es) 8 → (take (k - 0) es ≡ take 8 es) × (length (take 8 es) ≤ 8)
-first_eight es k e =
-    let z : k - 0 ≡ k = omega arith in (
-      ⊎_elim
-          (λ (l : length es < 8). let m : k ≡ length es = e ∙ min-eq_left (omega arith) in rw (z, m, take_all (length es) es (omega arith), take_all 8 es (omega arith)))
-          (λ (g : 8 ≤ length es). let m : k ≡ 8 = e ∙ min-eq_right g in rw (z, m))
-          (cases_lt (length es) 8),
-      (let t = length-take 8 es in let u = min-le_left 8 (length es) in omega arith),
-    )
+pub first_eight : (es : List ListEntry) (k : ℕ) → k ≡ min (length es) 8 → (take k es ≡ take 8 es) × (length (take 8 es) ≤ 8)
+first_eight es k e = (
+  ⊎_elim
+      (λ (l : length es < 8). let m : k ≡ length es = e ∙ min-eq_left (omega arith) in rw (m, take_all (length es) es (omega arith), take_all 8 es (omega arith)))
+      (λ (g : 8 ≤ length es). let m : k ≡ 8 = e ∙ min-eq_right g in rw m)
+      (cases_lt (length es) 8),
+  (let t = length-take 8 es in let u = min-le_left 8 (length es) in omega arith),
+)
 
 pub entries_front : (g : ℕ) (es : List ListEntry) (was is : List ℕ) (r : Option ℕ) → length es ≤ 8 → length was ≡ 537 → PutsEntries g es was is r
     → (unwrap_or r 0 ≤ 537) × (take (unwrap_or r 0) is ≡ entries_put g es)
@@ -85,13 +83,6 @@ entries_front g es was is (Some end) k l p =
 entries_front g es was is None k l p = absurd (omega arith)
 
 -- signatures one behind the other
-take_add : (m n : ℕ) (bs : List ℕ) → take (m + n) bs ≡ take m bs ++ take n (drop m bs)
-take_add zero n bs = rw (zero-add n)
-take_add (suc m) n [] = take_all (suc m + n) [] (omega arith) ∙ sym (take_all n [] (omega arith))
-take_add (suc m) n (b ∷ bs) =
-    let e : suc m + n ≡ suc (m + n) = omega arith in
-    rw e (ap (λ (l : List ℕ). b ∷ l) (take_add m n bs))
-
 pub proofs_take : (g : ℕ) (bs : List ℕ) (n : ℕ) → proofs_put g bs n ≡ take (g * n) bs
 proofs_take g bs zero = rw (mul-zero g)
 proofs_take g bs (suc n) =
@@ -99,32 +90,29 @@ proofs_take g bs (suc n) =
     let a : suc n ≡ n + 1 = omega arith in
     let m : g * n + g ≡ g * suc n = omega (arith, mul-suc g n) in
     ap (proofs_put g bs) a ∙ ap (put_all (span g)) (map-range_with_len_more f 0 n n (zero-add n)) ∙ put_all-push (span g) (signatures g bs n 0) (f n)
-    ∙ rw (proofs_take g bs n, zero-add (g * n)) (sym (take_add (g * n) g bs)) ∙ ap (λ (k : ℕ). take k bs) m
+    ∙ rw (proofs_take g bs n, zero-add (g * n)) (sym (take-add (g * n) g bs)) ∙ ap (λ (k : ℕ). take k bs) m
 
-pub proofs_cut : (g : ℕ) (bs : List ℕ) (n size : ℕ) → length bs < 2 ^ 64 → size ≡ min (min (g * n) (2 ^ 64 - 1)) (length bs) → take (size - 0) bs ≡ proofs_put g bs n
+pub proofs_cut : (g : ℕ) (bs : List ℕ) (n size : ℕ) → length bs < 2 ^ 64 → size ≡ min (min (g * n) (2 ^ 64 - 1)) (length bs) → take size bs ≡ proofs_put g bs n
 proofs_cut g bs n size l e =
-    let z : size - 0 ≡ size = omega arith in
-    rw (z, proofs_take g bs n)
+    rw (proofs_take g bs n)
     (⊎_elim
     (λ (h : length bs < g * n). let m : size ≡ length bs = grind arith in rw m (take_all (length bs) bs (omega arith) ∙ sym (take_all (g * n) bs (omega arith))))
     (λ (h : g * n ≤ length bs). let m : size ≡ g * n = grind arith in rw m)
     (cases_lt (length bs) (g * n)))
 
--- a part that stands at the front of a buffer
-pub cut_part : (end : ℕ) (room bs : List ℕ) → take end room ≡ bs → take (end - 0) room ≡ bs
-cut_part end room bs e = let z : end - 0 ≡ end = omega arith in rw z e
-
 -- what was found
-pub found_put : (n g : ℕ) (f : FoundParts) (version stamp size v : List ℕ) → version ≡ bytes_of f.version.now → stamp ≡ big_endian 4 f.timestamp → size ++ v ≡ value.put (option_map (λ x. x.now) f.value)
-    → version ++ (f.commit_signature.now ++ (stamp ++ (size ++ (v ++ f.data_signature.now)))) ≡ (found n g Read).put (Some (holding f))
+pub found_put : (n g : ℕ) (f : Found) (version stamp size v : List ℕ) → version ≡ bytes_of f.version → stamp ≡ big_endian 4 f.timestamp → size ++ v ≡ value.put (option_map (λ x. x.now) f.value)
+    → version ++ (f.commit_signature.now ++ (stamp ++ (size ++ (v ++ (f.data_signature.now ++ []))))) ≡ (found n g Read).put (Some (held f))
 found_put n g f version stamp size v e s h =
-    ap (λ (l : List ℕ). version ++ (f.commit_signature.now ++ l)) (value_put size v stamp f.data_signature.now (option_map (λ x. x.now) f.value) h)
-    ∙ rw (e, s)
+    let d = f.data_signature.now in
+    rw (append-nil d)
+    (ap (λ (l : List ℕ). version ++ (f.commit_signature.now ++ l)) (value_put size v stamp d (option_map (λ x. x.now) f.value) h)
+    ∙ rw (e, s))
 
 -- all of a reply
-pub reply_put : (g : ℕ) (m : ReplyParts) (o : Option FoundParts) → m.found ≡ o → (head version list proofs back : List ℕ) → head ≡ answer_put (asked o) m.committer
+pub reply_put : (g : ℕ) (m : ReplyParts) (o : Option Found) → m.found ≡ o → (head version list proofs back : List ℕ) → head ≡ answer_put (asked o) m.committer
     → version ≡ bytes_of m.version.now → list ≡ entries_put (min g 64) (take 8 m.entries.now) → proofs ≡ proofs_put g m.proofs.now (length (slots m.version.now))
-    → back ≡ (found (length (slots m.version.now)) g (asked o)).put (option_map holding o)
+    → back ≡ (found (length (slots m.version.now)) g (asked o)).put (option_map held o)
     → head ++ (version ++ (m.commit_signature.now ++ (list ++ (proofs ++ back)))) ≡ (reply (length (slots m.version.now)) g).put (responded g m)
 reply_put g m o e head version list proofs back h v l p b =
     let c = length-map (take 8 m.entries.now) (entered (min g 64)) in

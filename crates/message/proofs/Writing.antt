@@ -1,15 +1,13 @@
 -- From the parts of a message to the message.
-use Rattle.std.proofs.Common.{◌≡◌, ℕ, ◌-◌, List, ◌++◌, length, take, drop, Ok, Err, Option, Result, sym, ap, ◌∙◌, arith}
+use Rattle.std.proofs.Common.{◌≡◌, ℕ, List, ◌++◌, length, drop, Ok, Err, Option, Result, sym, ap, ◌∙◌, arith}
 use Rattle.std.proofs.lemmas.List.{append_assoc}
 use Rattle.octets.specs.Field.{Field}
 use Rattle.octets.specs.Numbers.{big_endian}
 use Rattle.octets.proofs.Laws.{Lawful, undoes}
-use Rattle.version.specs.Layout.{version_field}
 use Rattle.message.specs.declared.refusal.Refusal.{Refusal}
 use Rattle.message.specs.declared.refusal.Refusal.TheVariants.{OutOfRange, ValueTooLong, BadField as BadAt, BufferTooShort}
 use Rattle.message.specs.Fields.{value}
-use Rattle.message.specs.Commit.{Commitment, commit}
-use Rattle.message.specs.Slots.{StoredValue, StoredVersion, value_slot, version_slot}
+use Rattle.message.specs.Slots.{StoredValue, value_slot}
 use Rattle.message.specs.Submit.{Submission, submit, operation_put}
 use Rattle.message.specs.Writes.{Fills, Writes}
 
@@ -35,15 +33,3 @@ submit_put n g m head size v e h =
 pub value_slot_put : (g : ℕ) (m : StoredValue) (stamp size v : List ℕ) → stamp ≡ big_endian 4 m.timestamp → size ++ v ≡ value.put m.value
     → stamp ++ (size ++ (v ++ m.data_signature)) ≡ (value_slot g).put m
 value_slot_put g m stamp size v e h = value_put size v stamp m.data_signature m.value h ∙ ap (λ (l : List ℕ). l ++ (value.put m.value ++ m.data_signature)) e
-
-pub version_slot_put : (n g : ℕ) (m : StoredVersion) (end : ℕ) (room : List ℕ) → take end room ≡ (version_field n).put m.version
-    → take (end - 0) room ++ (m.commit_signature ++ m.proof_signature) ≡ (version_slot n g).put m
-version_slot_put n g m end room e =
-    let z : end - 0 ≡ end = omega arith in
-    rw (z, e)
-
-pub commit_put : (n g : ℕ) (m : Commitment) (head : List ℕ) (end : ℕ) (room : List ℕ) → head ≡ big_endian 1 3 ++ big_endian 1 m.site → take end room ≡ (version_field n).put m.version
-    → head ++ (take (end - 0) room ++ (m.commit_signature ++ m.proof_signature)) ≡ (commit n g).put m
-commit_put n g m head end room h e =
-    let z : end - 0 ≡ end = omega arith in
-    rw (z, e, h)

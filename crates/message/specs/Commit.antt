@@ -5,9 +5,7 @@ use Rattle.version.specs.Layout.{version_field}
 use Rattle.version.specs.Order.{Slot}
 use Rattle.version.specs.Version.{slots}
 use Rattle.message.specs.declared.commit.Commit.{Commit}
-use Rattle.message.specs.declared.commit.CommitParts.{CommitParts}
 use Rattle.message.specs.Heads.{commit_head}
-use Rattle.message.specs.Places.{bytes_at}
 
 pub record Commitment : Type 0 where
   pub site : ℕ
@@ -23,22 +21,12 @@ commit n g =
     (λ m. ((tt, m.site), (m.version, (m.commit_signature, m.proof_signature))))
     (commit_head n then λ _. version_field n then λ _. span g then λ _. span g)
 
--- what a commit of the code stands for, whose parts lie in bs
-abbrev pub commitment : ℕ → List ℕ → Commit → Commitment
-commitment g bs m =
-    record {
-      site = m.site;
-      version = slots m.version;
-      commit_signature = bytes_at bs m.commit_signature g;
-      proof_signature = bytes_at bs m.proof_signature g;
-    }
-
--- and one whose parts are to be written
-abbrev pub committed : CommitParts → Commitment
+-- what a commit of the code stands for
+abbrev pub committed : Commit → Commitment
 committed m =
     record {
       site = m.site;
-      version = slots m.version.now;
+      version = slots m.version;
       commit_signature = m.commit_signature.now;
       proof_signature = m.proof_signature.now;
     }

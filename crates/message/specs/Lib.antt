@@ -2,6 +2,7 @@ pub mod Code
 pub mod Commit
 pub mod Fields
 pub mod Heads
+pub mod Kind
 pub mod Places
 pub mod Reads
 pub mod Refusals
@@ -10,4 +11,5 @@ pub mod Reply
 pub mod Slots
 pub mod Strings
 pub mod Submit
+pub mod Texts
 pub mod Writes

@@ -1,5 +1,6 @@
 -- What a call answers that reads a whole message.
-use Rattle.std.specs.Prelude.{◌≡◌, ℕ, ◌-◌, ◌<◌, ◌≤◌, List, length, Ok, Err, Result}
+use Rattle.std.specs.Prelude.{◌≡◌, ℕ, ◌-◌, ◌<◌, List, length, Ok, Err, Result}
+use Rattle.std.specs.Borrow.{Bor}
 use Rattle.octets.specs.declared.BadField.{BadField}
 use Rattle.octets.specs.Field.{Field, read}
 use Rattle.version.specs.declared.version.Version.{Version}
@@ -30,9 +31,9 @@ abbrev pub Sized : ℕ → Result Version Refusal → Type 0
 Sized n (Ok z) = Size n × (length (slots z) ≡ n)
 Sized n (Err e) = (Size n → ⊥) × (e ≡ OutOfRange)
 
--- and a message whose last field ends at a place
-abbrev pub Ended : {M : Type 0} → List ℕ → Result (M × ℕ) BadField → Result M Refusal → Type 0
-Ended bs (Ok p) (Ok m) = (length bs ≤ p.1) × (m ≡ p.0)
-Ended bs (Ok p) (Err e) = (p.1 < length bs) × (e ≡ BadAt p.1)
+-- and a message behind whose fields nothing is left
+abbrev pub Ended : {M : Type 0} → List ℕ → Result (M × Bor (List ℕ)) BadField → Result M Refusal → Type 0
+Ended bs (Ok p) (Ok m) = (length p.1.now ≡ 0) × (m ≡ p.0)
+Ended bs (Ok p) (Err e) = (0 < length p.1.now) × (e ≡ BadAt (length bs - length p.1.now))
 Ended bs (Err b) (Ok m) = ⊥
 Ended bs (Err b) (Err e) = e ≡ BadAt (length bs - b.left)

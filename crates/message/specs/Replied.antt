@@ -6,32 +6,16 @@ use Rattle.octets.specs.Numbers.{big_endian}
 use Rattle.octets.specs.Puts.{Puts}
 use Rattle.version.specs.Version.{slots}
 use Rattle.message.specs.declared.code.Code.{Code}
-use Rattle.message.specs.declared.code.Code.TheVariants.{Read, Write}
+use Rattle.message.specs.declared.reply.Found.{Found}
 use Rattle.message.specs.declared.reply_parts.ListEntry.{ListEntry}
-use Rattle.message.specs.declared.reply_parts.FoundParts.{FoundParts}
 use Rattle.message.specs.declared.reply_parts.ReplyParts.{ReplyParts}
 use Rattle.message.specs.Code.{code_number}
-use Rattle.message.specs.Reply.{Listed, Held, Response, entry, signatures}
+use Rattle.message.specs.Reply.{Listed, Response, asked, entry, held, signatures}
 use Rattle.message.specs.Writes.{TooLong}
 
 -- an entry has room for a signature of 64 bytes, of which the first g count
 abbrev pub entered : ℕ → ListEntry → Listed
 entered g e = record { site = e.site; code = e.code; register = e.register; submit_signature = take g e.signature }
-
-abbrev pub holding : FoundParts → Held
-holding f =
-    record {
-      version = slots f.version.now;
-      commit_signature = f.commit_signature.now;
-      timestamp = f.timestamp;
-      value = option_map (λ x. x.now) f.value;
-      data_signature = f.data_signature.now;
-    }
-
--- it answers a read exactly if it says what was found
-abbrev pub asked : Option FoundParts → Code
-asked None = Write
-asked (Some f) = Read
 
 -- at most eight entries, and a proof signature for each site of the version's group
 abbrev pub responded : ℕ → ReplyParts → Response
@@ -43,10 +27,10 @@ responded g m =
       commit_signature = m.commit_signature.now;
       entries = map (entered (min g 64)) (take 8 m.entries.now);
       proofs = signatures g m.proofs.now (length (slots m.version.now)) 0;
-      found = option_map holding m.found;
+      found = option_map held m.found;
     }
 
-abbrev pub FoundTooLong : Option FoundParts → Type 0
+abbrev pub FoundTooLong : Option Found → Type 0
 FoundTooLong None = ⊥
 FoundTooLong (Some f) = TooLong (option_map (λ x. x.now) f.value)
 

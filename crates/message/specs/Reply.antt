@@ -15,7 +15,7 @@ use Rattle.message.specs.declared.reply.Found.{Found}
 use Rattle.message.specs.declared.reply.Reply.{Reply}
 use Rattle.message.specs.Fields.{site, code, register, value}
 use Rattle.message.specs.Heads.{reply_head}
-use Rattle.message.specs.Places.{bytes_at, part, ValueBefore}
+use Rattle.message.specs.Places.{bytes_at, ValueBefore}
 
 -- a submit that was taken and is not committed yet: site, code, register, submit signature
 pub record Listed : Type 0 where
@@ -70,41 +70,45 @@ reply n g =
     (λ m. ((tt, (m.code, m.committer)), (m.version, (m.commit_signature, (m.entries, (m.proofs, m.found))))))
     (reply_head n then λ h. version_field n then λ _. span g then λ _. entries n g then λ _. times n (span g) then λ _. found n g h.1.0)
 
--- what those of the code stand for, whose parts lie in bs
-module _ (g : ℕ) (bs : List ℕ) where
-  abbrev pub listed : Entry → Listed
-  listed e = record { site = e.site; code = e.code; register = e.register; submit_signature = bytes_at bs e.signature g }
+-- what those of the code stand for
+abbrev pub listed : Entry → Listed
+listed e = record { site = e.site; code = e.code; register = e.register; submit_signature = e.signature.now }
 
-  abbrev pub all_listed : Entries → List Listed
-  all_listed es = map listed (take es.count es.items)
+abbrev pub all_listed : Entries → List Listed
+all_listed es = map listed (take es.count es.items)
 
-  -- so many signatures from a place on, one behind the other
-  abbrev pub signatures : ℕ → ℕ → List (List ℕ)
-  signatures n at = map (λ k. bytes_at bs (at + g * k) g) (range_with_len 0 n)
+-- so many signatures of g bytes from a place on, one behind the other
+abbrev pub signatures : ℕ → List ℕ → ℕ → ℕ → List (List ℕ)
+signatures g bs n at = map (λ k. bytes_at bs (at + g * k) g) (range_with_len 0 n)
 
-  abbrev pub held : Found → Held
-  held f =
-      record {
-        version = slots f.version;
-        commit_signature = bytes_at bs f.commit_signature g;
-        timestamp = f.timestamp;
-        value = option_map (part bs) f.value;
-        data_signature = bytes_at bs f.data_signature g;
-      }
+abbrev pub held : Found → Held
+held f =
+    record {
+      version = slots f.version;
+      commit_signature = f.commit_signature.now;
+      timestamp = f.timestamp;
+      value = option_map (λ x. x.now) f.value;
+      data_signature = f.data_signature.now;
+    }
 
-  abbrev pub response : ℕ → Reply → Response
-  response n m =
-      record {
-        code = m.code;
-        committer = m.committer;
-        version = slots m.version;
-        commit_signature = bytes_at bs m.commit_signature g;
-        entries = all_listed m.entries;
-        proofs = signatures n m.proofs;
-        found = option_map held m.found;
-      }
+-- a reply answers a read exactly if it says what was found
+abbrev pub asked : Option Found → Code
+asked None = Write
+asked (Some f) = Read
 
--- where the value stands that was found: in front of the data signature, which reaches up to `end`
-abbrev pub FoundBefore : ℕ → List ℕ → Option Found → ℕ → Type 0
-FoundBefore g bs None end = Unit {0}
-FoundBefore g bs (Some f) end = ValueBefore g bs f.value end
+abbrev pub response : ℕ → ℕ → Reply → Response
+response g n m =
+    record {
+      code = asked m.found;
+      committer = m.committer;
+      version = slots m.version;
+      commit_signature = m.commit_signature.now;
+      entries = all_listed m.entries;
+      proofs = signatures g m.proofs.now n 0;
+      found = option_map held m.found;
+    }
+
+-- where the value stands that was found: in front of the data signature, which is the last of the bytes
+abbrev pub FoundBefore : ℕ → List ℕ → Option Found → Type 0
+FoundBefore g bs None = Unit {0}
+FoundBefore g bs (Some f) = ValueBefore g bs (option_map (λ x. x.now) f.value)

@@ -5,11 +5,9 @@ use Rattle.octets.specs.Field.{Field, numeral, span, ◌then◌, shaped}
 use Rattle.octets.specs.Numbers.{big_endian}
 use Rattle.message.specs.declared.code.Code.{Code}
 use Rattle.message.specs.declared.submit.Submit.{Submit}
-use Rattle.message.specs.declared.submit.SubmitParts.{SubmitParts}
 use Rattle.message.specs.Code.{code_number}
 use Rattle.message.specs.Fields.{written}
 use Rattle.message.specs.Heads.{submit_head}
-use Rattle.message.specs.Places.{bytes_at, part}
 
 pub record Submission : Type 0 where
   pub site : ℕ
@@ -28,21 +26,8 @@ submit n g =
     (λ m. ((tt, (m.site, (m.code, m.register))), (m.timestamp, (m.submit_signature, (m.value, m.data_signature)))))
     (submit_head n then λ h. numeral 4 then λ _. span g then λ _. written h.1.1.0 then λ _. span g)
 
--- what a submit of the code stands for, whose parts lie in bs
-abbrev pub submission : ℕ → List ℕ → Submit → Submission
-submission g bs m =
-    record {
-      site = m.site;
-      code = m.code;
-      register = m.register;
-      timestamp = m.timestamp;
-      submit_signature = bytes_at bs m.submit_signature g;
-      value = option_map (part bs) m.value;
-      data_signature = bytes_at bs m.data_signature g;
-    }
-
--- and one whose parts are to be written
-abbrev pub submitted : SubmitParts → Submission
+-- what a submit of the code stands for
+abbrev pub submitted : Submit → Submission
 submitted m =
     record {
       site = m.site;

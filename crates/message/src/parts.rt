@@ -14,42 +14,8 @@ use version::Version;
 // The most bytes that a version has, of a group of eight sites.
 pub(crate) const VERSION_SIZE: usize = 288;
 
-// Writes five parts, of which any may be empty, to the front of `out`, and answers how many bytes they took.
-pub(crate) fn fill<'a>(
-    out: &mut [u8],
-    a: &'a [u8],
-    b: &'a [u8],
-    c: &'a [u8],
-    d: &'a [u8],
-    e: &'a [u8],
-) -> Result<usize, Refusal>
-    ensures { Fills (a.now ++ (b.now ++ (c.now ++ (d.now ++ e.now)))) out.old out.new result }
-{
-    fill_all(out, &[a, b, c, d, e])
-}
-
-// Writes eleven parts.
-pub(crate) fn fill_eleven<'a>(
-    out: &mut [u8],
-    a: &'a [u8],
-    b: &'a [u8],
-    c: &'a [u8],
-    d: &'a [u8],
-    e: &'a [u8],
-    f: &'a [u8],
-    g: &'a [u8],
-    h: &'a [u8],
-    i: &'a [u8],
-    j: &'a [u8],
-    k: &'a [u8],
-) -> Result<usize, Refusal>
-    ensures { Fills (a.now ++ (b.now ++ (c.now ++ (d.now ++ (e.now ++ (f.now ++ (g.now ++ (h.now ++ (i.now ++ (j.now ++ k.now)))))))))) out.old out.new result }
-{
-    fill_all(out, &[a, b, c, d, e, f, g, h, i, j, k])
-}
-
-// Writes the parts, if there is room for all of them.
-fn fill_all(out: &mut [u8], parts: &[&[u8]]) -> Result<usize, Refusal>
+// Writes the parts one behind the other to the front of `out`, if there is room for all of them, and answers how many bytes they took.
+pub(crate) fn fill(out: &mut [u8], parts: &[&[u8]]) -> Result<usize, Refusal>
     ensures { Fills (joined parts.now) out.old out.new result }
 {
     if !fit(parts, out.len()) {
@@ -98,16 +64,10 @@ pub fn value_parts(value: Option<&[u8]>) -> Result<([u8; 2], &[u8]), Refusal>
     }
 }
 
-// Writes a version to the front of `room` and answers how many bytes it took.
-pub(crate) fn version_part(version: &Version, room: &mut [u8; VERSION_SIZE]) -> usize
-    ensures { (result ≤ 288) × (take result room.new ≡ bytes_of version.now) }
+// The bytes of a version, written to the front of `room`.
+pub(crate) fn version_part<'r>(version: &Version, room: &'r mut [u8; VERSION_SIZE]) -> &'r [u8]
+    ensures { result.now ≡ bytes_of version.now }
 {
-    version.put(room, 0).unwrap_or(0)
-}
-
-// A timestamp in its four bytes, highest first.
-pub(crate) fn stamp_part(timestamp: u32) -> [u8; 4]
-    ensures { result ≡ big_endian 4 timestamp }
-{
-    timestamp.to_be_bytes()
+    let end = version.put(room, 0).unwrap_or(0);
+    &room[..end]
 }

@@ -1,73 +1,77 @@
 //! A reply: what the host answers to a submit.
 
-ghost use Rattle.std.specs.Prelude.{◌≤◌, length, IfOk};
+ghost use Rattle.std.specs.Prelude.{◌≡◌, ◌≤◌, length, take, IfOk};
 ghost use Rattle.octets.specs.Field.{Undoes, span, times};
+ghost use Rattle.octets.specs.Reads.{Gets};
 ghost use Rattle.std.specs.Option.{option_map};
 ghost use Rattle.version.specs.Version.{slots};
-ghost use Rattle.message.specs.Places.{GetsAt};
 ghost use Rattle.message.specs.Reads.{Reads};
-ghost use Rattle.message.specs.Reply.{entry as entry_field, entries as entries_field, found as found_field, reply as reply_field, listed, all_listed, signatures, held, response, FoundBefore};
+ghost use Rattle.message.specs.Reply.{entry as entry_field, entries as entries_field, found as found_field, reply as reply_field, asked, listed, all_listed, signatures, held, response, FoundBefore};
 
 use super::code::Code;
-use super::fields::{
-    byte_at, code_at, register_at, rest, signature_at, site_at, stamp_at, value_at, version_at,
-};
-use super::head::reply_head;
-use super::place::Place;
+use super::fields::{take_code, take_register, take_site, take_value};
+use super::head::take_reply_head;
 use super::refusal::Refusal;
 use super::whole::{whole, zero};
-use octets::BadField;
-use version::Version;
-
-/// The kind of a reply, its first byte.
-pub(crate) const REPLY: u8 = 2;
+use octets::{BadField, take_number, take_span};
+use version::{MAX_SITES, Version};
 
 /// A submit that the host took before this one and that is not committed yet.
 #[derive(Clone, Copy)]
-pub struct Entry {
+pub struct Entry<'a> {
     pub site: u8,
     pub code: Code,
     pub register: u8,
-    pub signature: usize,
+    pub signature: &'a [u8],
 }
 
 /// The entries of a reply, in their order: the first `count` of `items`.
+// Kept: a message is a plain value that is copied and takes no heap, so its entries stand in an array with their count.
 #[derive(Clone, Copy)]
-pub struct Entries {
+pub struct Entries<'a> {
     pub count: usize,
-    pub items: [Entry; 8],
+    pub items: [Entry<'a>; MAX_SITES as usize],
+}
+
+impl<'a> Entries<'a> {
+    /// The entries that count.
+    pub fn as_slice(&self) -> &[Entry<'a>]
+        ensures { result.now ≡ take self.now.count self.now.items }
+    {
+        let items = self.items.as_slice();
+        &items[..self.count.min(items.len())]
+    }
 }
 
 /// What the register holds that a read asked for.
 #[derive(Clone, Copy)]
-pub struct Found {
+pub struct Found<'a> {
     pub version: Version,
-    pub commit_signature: usize,
+    pub commit_signature: &'a [u8],
     pub timestamp: u32,
-    pub value: Option<Place>,
-    pub data_signature: usize,
+    pub value: Option<&'a [u8]>,
+    pub data_signature: &'a [u8],
 }
 
-/// What the host answers to a submit, with its parts by their places in the bytes that it was read from. The proof signatures
-/// of the sites stand one behind the other from `proofs` on.
+/// What the host answers to a submit: to a read with what was found, to a write without. The proof signatures of the sites stand
+/// one behind the other in `proofs`.
 #[derive(Clone, Copy)]
-pub struct Reply {
-    pub code: Code,
+pub struct Reply<'a> {
     pub committer: u8,
     pub version: Version,
-    pub commit_signature: usize,
-    pub entries: Entries,
-    pub proofs: usize,
-    pub found: Option<Found>,
+    pub commit_signature: &'a [u8],
+    pub entries: Entries<'a>,
+    pub proofs: &'a [u8],
+    pub found: Option<Found<'a>>,
 }
 
-fn entry_at(bytes: &[u8], at: usize, n: u8, g: usize) -> Result<(Entry, usize), BadField>
-    ensures { GetsAt (entry_field n g) (listed g bytes.now) bytes.now at result }
+fn take_entry(bytes: &[u8], n: u8, g: usize) -> Result<(Entry<'_>, &[u8]), BadField>
+    ensures { Gets (entry_field n g) listed bytes.now result }
 {
-    let (site, at) = site_at(bytes, at, n)?;
-    let (code, at) = code_at(bytes, at)?;
-    let (register, at) = register_at(bytes, at, n, site, code)?;
-    let (signature, at) = signature_at(bytes, at, g)?;
+    let (site, rest) = take_site(bytes, n)?;
+    let (code, rest) = take_code(rest)?;
+    let (register, rest) = take_register(rest, n, site, code)?;
+    let (signature, rest) = take_span(rest, g)?;
     Ok((
         Entry {
             site,
@@ -75,80 +79,73 @@ fn entry_at(bytes: &[u8], at: usize, n: u8, g: usize) -> Result<(Entry, usize), 
             register,
             signature,
         },
-        at,
+        rest,
     ))
 }
 
 // A count of at most `n`, and that many entries.
-fn entries_at(bytes: &[u8], at: usize, n: u8, g: usize) -> Result<(Entries, usize), BadField>
+fn take_entries(bytes: &[u8], n: u8, g: usize) -> Result<(Entries<'_>, &[u8]), BadField>
     requires { n ≤ 8 }
-    ensures { GetsAt (entries_field n g) (all_listed g bytes.now) bytes.now at result }
+    ensures { Gets (entries_field n g) all_listed bytes.now result }
 {
-    let (count, start) = byte_at(bytes, at)?;
+    let (count, rest): (u8, _) = take_number(bytes)?;
     if n < count {
-        return Err(BadField {
-            left: rest(bytes, at).len(),
-        });
+        return Err(BadField { left: bytes.len() });
     }
-    listed_at(bytes, start, count, n, g)
+    take_listed(rest, count, n, g)
 }
 
-fn listed_at(
-    bytes: &[u8],
-    start: usize,
-    count: u8,
-    n: u8,
-    g: usize,
-) -> Result<(Entries, usize), BadField>
+fn take_listed(bytes: &[u8], count: u8, n: u8, g: usize) -> Result<(Entries<'_>, &[u8]), BadField>
     requires { count ≤ 8 }
-    ensures { GetsAt (times count (entry_field n g)) (all_listed g bytes.now) bytes.now start result }
+    ensures { Gets (times count (entry_field n g)) all_listed bytes.now result }
 {
     let none = Entry {
         site: 1,
         code: Code::Read,
         register: 1,
-        signature: 0,
+        signature: &[],
     };
-    let mut items = [none; 8];
-    let mut at = start;
+    let mut items = [none; MAX_SITES as usize];
+    let mut rest = bytes;
     let count = count as usize;
+    // Kept: the checker does not cover a `&mut` to an element that holds a reference, so the proof did not close over `iter_mut`.
     for i in 0..count {
-        let (entry, end) = entry_at(bytes, at, n, g)?;
+        let (entry, behind) = take_entry(rest, n, g)?;
         items[i] = entry;
-        at = end;
+        rest = behind;
     }
-    Ok((Entries { count, items }, at))
+    Ok((Entries { count, items }, rest))
 }
 
 // The proof signatures of all sites.
-fn proofs_at(bytes: &[u8], start: usize, n: u8, g: usize) -> Result<(usize, usize), BadField>
-    ensures { GetsAt (times n (span g)) (signatures g bytes.now n) bytes.now start result }
+fn take_proofs(bytes: &[u8], n: u8, g: usize) -> Result<(&[u8], &[u8]), BadField>
+    ensures { Gets (times n (span g)) (λ p. signatures g p.now n 0) bytes.now result }
 {
-    let mut at = start;
-    for _k in 0..n {
-        let (_, end) = signature_at(bytes, at, g)?;
-        at = end;
+    let mut rest = bytes;
+    for _ in 0..n {
+        let (_, behind) = take_span(rest, g)?;
+        rest = behind;
     }
-    Ok((start, at))
+    Ok(bytes.split_at(bytes.len() - rest.len()))
 }
 
-fn found_at(
+// What a read found; a write finds nothing.
+fn take_found(
     bytes: &[u8],
-    at: usize,
     zero: Version,
     g: usize,
     code: Code,
-) -> Result<(Option<Found>, usize), BadField>
-    ensures got { GetsAt (found_field (length (slots zero)) g code) (option_map (held g bytes.now)) bytes.now at result }
-    ensures placed { IfOk result (λ p. FoundBefore g bytes.now p.0 p.1) }
+) -> Result<(Option<Found<'_>>, &[u8]), BadField>
+    ensures got { Gets (found_field (length (slots zero)) g code) (option_map held) bytes.now result }
+    ensures answers { IfOk result (λ p. asked p.0 ≡ code) }
 {
     match code {
         Code::Read => {
-            let (version, at) = version_at(bytes, at, zero)?;
-            let (commit_signature, at) = signature_at(bytes, at, g)?;
-            let (timestamp, at) = stamp_at(bytes, at)?;
-            let (value, at) = value_at(bytes, at)?;
-            let (data_signature, at) = signature_at(bytes, at, g)?;
+            let (version, rest) = zero.take(bytes)?;
+            let (commit_signature, rest) = take_span(rest, g)?;
+            let (timestamp, rest) = take_number(rest)?;
+            let (value, rest) = take_value(rest)?;
+            let (data_signature, rest) = take_span(rest, g)?;
             let found = Found {
                 version,
                 commit_signature,
@@ -156,27 +153,24 @@ fn found_at(
                 value,
                 data_signature,
             };
-            Ok((Some(found), at))
+            Ok((Some(found), rest))
         }
-        Code::Write => Ok((None, at)),
+        Code::Write => Ok((None, bytes)),
     }
 }
 
-fn reply_fields(bytes: &[u8], zero: Version, g: usize) -> Result<(Reply, usize), BadField>
-    ensures got { GetsAt (reply_field (length (slots zero)) g) (response g bytes.now (length (slots zero))) bytes.now 0 result }
-    ensures placed { IfOk result (λ p. FoundBefore g bytes.now p.0.found p.1) }
+fn take_reply(bytes: &[u8], zero: Version, g: usize) -> Result<(Reply<'_>, &[u8]), BadField>
+    ensures { Gets (reply_field (length (slots zero)) g) (response g (length (slots zero))) bytes.now result }
 {
     let n = zero.size();
-    let (head, at) = reply_head(bytes, n)?;
-    let (code, committer) = head;
-    let (version, at) = version_at(bytes, at, zero)?;
-    let (commit_signature, at) = signature_at(bytes, at, g)?;
-    let (entries, at) = entries_at(bytes, at, n, g)?;
-    let (proofs, at) = proofs_at(bytes, at, n, g)?;
-    let (found, at) = found_at(bytes, at, zero, g, code)?;
+    let ((code, committer), rest) = take_reply_head(bytes, n)?;
+    let (version, rest) = zero.take(rest)?;
+    let (commit_signature, rest) = take_span(rest, g)?;
+    let (entries, rest) = take_entries(rest, n, g)?;
+    let (proofs, rest) = take_proofs(rest, n, g)?;
+    let (found, rest) = take_found(rest, zero, g, code)?;
     Ok((
         Reply {
-            code,
             committer,
             version,
             commit_signature,
@@ -184,18 +178,28 @@ fn reply_fields(bytes: &[u8], zero: Version, g: usize) -> Result<(Reply, usize),
             proofs,
             found,
         },
-        at,
+        rest,
     ))
 }
 
-impl Reply {
+impl<'a> Reply<'a> {
     /// Reads bytes that are to be a reply in a group of `n` sites, with signatures of `g` bytes, and nothing else.
-    pub fn read(n: u8, g: usize, bytes: &[u8]) -> Result<Reply, Refusal>
-        ensures reads { Reads n (reply_field n g) (response g bytes.now n) bytes.now result }
-        ensures placed { IfOk result (λ m. FoundBefore g bytes.now m.found (length bytes.now)) }
+    pub fn read(n: u8, g: usize, bytes: &'a [u8]) -> Result<Reply<'a>, Refusal>
+        ensures reads { Reads n (reply_field n g) (response g n) bytes.now result }
+        ensures placed { IfOk result (λ m. FoundBefore g bytes.now m.found) }
         ensures undoes { Undoes (reply_field n g) }
     {
         let zero = zero(n)?;
-        whole(bytes, reply_fields(bytes, zero, g))
+        whole(bytes, take_reply(bytes, zero, g))
+    }
+
+    /// What the operation does that is answered.
+    pub fn code(&self) -> Code
+        ensures { result ≡ asked self.now.found }
+    {
+        match self.found {
+            Some(_) => Code::Read,
+            None => Code::Write,
+        }
     }
 }

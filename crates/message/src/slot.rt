@@ -2,134 +2,106 @@
 
 ghost use Rattle.std.specs.Prelude.{ℕ, length};
 ghost use Rattle.octets.specs.Field.{Undoes};
+ghost use Rattle.octets.specs.Reads.{Gets};
 ghost use Rattle.version.specs.Version.{slots};
-ghost use Rattle.message.specs.Places.{GetsAt};
 ghost use Rattle.message.specs.Reads.{Reads, ReadsAny};
-ghost use Rattle.message.specs.Slots.{value_slot, version_slot, stored_value, stored_version, value_stored, version_stored};
+ghost use Rattle.message.specs.Slots.{value_slot, version_slot, value_stored, version_stored};
 ghost use Rattle.message.specs.Writes.{TooLong, Writes};
 
-use super::fields::{signature_at, stamp_at, value_at, version_at};
-use super::parts::{VERSION_SIZE, fill, stamp_part, value_parts, version_part};
-use super::place::Place;
+use super::fields::take_value;
+use super::parts::{VERSION_SIZE, fill, value_parts, version_part};
 use super::refusal::Refusal;
 use super::whole::{whole, zero};
-use octets::BadField;
+use octets::{BadField, take_number, take_span};
 use version::Version;
 
-/// What a host keeps of a site's last submit, with its parts by their places in the slot's bytes.
+/// What a host keeps of a site's last submit.
 #[derive(Clone, Copy)]
-pub struct ValueSlot {
+pub struct ValueSlot<'a> {
     pub timestamp: u32,
-    pub value: Option<Place>,
-    pub data_signature: usize,
+    pub value: Option<&'a [u8]>,
+    pub data_signature: &'a [u8],
 }
 
-/// What a host keeps of a site's last commit, with its signatures by their places in the slot's bytes.
+/// What a host keeps of a site's last commit.
 #[derive(Clone, Copy)]
-pub struct VersionSlot {
+pub struct VersionSlot<'a> {
     pub version: Version,
-    pub commit_signature: usize,
-    pub proof_signature: usize,
+    pub commit_signature: &'a [u8],
+    pub proof_signature: &'a [u8],
 }
 
-fn value_slot_fields(bytes: &[u8], g: usize) -> Result<(ValueSlot, usize), BadField>
-    ensures { GetsAt (value_slot g) (stored_value g bytes.now) bytes.now 0 result }
+fn take_value_slot(bytes: &[u8], g: usize) -> Result<(ValueSlot<'_>, &[u8]), BadField>
+    ensures { Gets (value_slot g) value_stored bytes.now result }
 {
-    let (timestamp, at) = stamp_at(bytes, 0)?;
-    let (value, at) = value_at(bytes, at)?;
-    let (data_signature, at) = signature_at(bytes, at, g)?;
+    let (timestamp, rest) = take_number(bytes)?;
+    let (value, rest) = take_value(rest)?;
+    let (data_signature, rest) = take_span(rest, g)?;
     Ok((
         ValueSlot {
             timestamp,
             value,
             data_signature,
         },
-        at,
+        rest,
     ))
 }
 
-fn version_slot_fields(
+fn take_version_slot(
     bytes: &[u8],
     zero: Version,
     g: usize,
-) -> Result<(VersionSlot, usize), BadField>
-    ensures { GetsAt (version_slot (length (slots zero)) g) (stored_version g bytes.now) bytes.now 0 result }
+) -> Result<(VersionSlot<'_>, &[u8]), BadField>
+    ensures { Gets (version_slot (length (slots zero)) g) version_stored bytes.now result }
 {
-    let (version, at) = version_at(bytes, 0, zero)?;
-    let (commit_signature, at) = signature_at(bytes, at, g)?;
-    let (proof_signature, at) = signature_at(bytes, at, g)?;
+    let (version, rest) = zero.take(bytes)?;
+    let (commit_signature, rest) = take_span(rest, g)?;
+    let (proof_signature, rest) = take_span(rest, g)?;
     Ok((
         VersionSlot {
             version,
             commit_signature,
             proof_signature,
         },
-        at,
+        rest,
     ))
 }
 
-impl ValueSlot {
+impl<'a> ValueSlot<'a> {
     /// Reads bytes that are to be a value slot, with a signature of `g` bytes, and nothing else.
-    pub fn read(g: usize, bytes: &[u8]) -> Result<ValueSlot, Refusal>
-        ensures reads { ReadsAny (value_slot g) (stored_value g bytes.now) bytes.now result }
+    pub fn read(g: usize, bytes: &'a [u8]) -> Result<ValueSlot<'a>, Refusal>
+        ensures reads { ReadsAny (value_slot g) value_stored bytes.now result }
         ensures undoes { Undoes (value_slot g) }
     {
-        whole(bytes, value_slot_fields(bytes, g))
+        whole(bytes, take_value_slot(bytes, g))
     }
-}
 
-impl VersionSlot {
-    /// Reads bytes that are to be a version slot in a group of `n` sites, with signatures of `g` bytes, and nothing else.
-    pub fn read(n: u8, g: usize, bytes: &[u8]) -> Result<VersionSlot, Refusal>
-        ensures reads { Reads n (version_slot n g) (stored_version g bytes.now) bytes.now result }
-        ensures undoes { Undoes (version_slot n g) }
-    {
-        let zero = zero(n)?;
-        whole(bytes, version_slot_fields(bytes, zero, g))
-    }
-}
-
-/// What a host keeps of a site's last submit, as parts that are to be written.
-#[derive(Clone, Copy)]
-pub struct ValueSlotParts<'a> {
-    pub timestamp: u32,
-    pub value: Option<&'a [u8]>,
-    pub data_signature: &'a [u8],
-}
-
-impl ValueSlotParts<'_> {
     /// Writes the value slot to the front of `out` and answers how many bytes it took.
     pub fn write(&self, out: &mut [u8]) -> Result<usize, Refusal>
         ensures { (g : ℕ) → Writes (value_slot g) (value_stored self.now) (TooLong (value_stored self.now).value) out.old out.new result }
     {
         let (size, value) = value_parts(self.value)?;
-        let stamp = stamp_part(self.timestamp);
-        fill(out, &[], &stamp, &size, value, self.data_signature)
+        let stamp = self.timestamp.to_be_bytes();
+        fill(out, &[&stamp, &size, value, self.data_signature])
     }
 }
 
-/// What a host keeps of a site's last commit, as parts that are to be written.
-#[derive(Clone, Copy)]
-pub struct VersionSlotParts<'a> {
-    pub version: &'a Version,
-    pub commit_signature: &'a [u8],
-    pub proof_signature: &'a [u8],
-}
+impl<'a> VersionSlot<'a> {
+    /// Reads bytes that are to be a version slot in a group of `n` sites, with signatures of `g` bytes, and nothing else.
+    pub fn read(n: u8, g: usize, bytes: &'a [u8]) -> Result<VersionSlot<'a>, Refusal>
+        ensures reads { Reads n (version_slot n g) version_stored bytes.now result }
+        ensures undoes { Undoes (version_slot n g) }
+    {
+        let zero = zero(n)?;
+        whole(bytes, take_version_slot(bytes, zero, g))
+    }
 
-impl VersionSlotParts<'_> {
     /// Writes the version slot to the front of `out` and answers how many bytes it took.
     pub fn write(&self, out: &mut [u8]) -> Result<usize, Refusal>
         ensures { (n g : ℕ) → Writes (version_slot n g) (version_stored self.now) ⊥ out.old out.new result }
     {
         let mut room = [0; VERSION_SIZE];
-        let end = version_part(self.version, &mut room);
-        fill(
-            out,
-            &[],
-            &[],
-            &room[0..end],
-            self.commit_signature,
-            self.proof_signature,
-        )
+        let version = version_part(&self.version, &mut room);
+        fill(out, &[version, self.commit_signature, self.proof_signature])
     }
 }

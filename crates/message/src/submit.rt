@@ -2,44 +2,41 @@
 
 ghost use Rattle.std.specs.Prelude.{◌≡◌, ℕ};
 ghost use Rattle.octets.specs.Field.{Undoes};
-ghost use Rattle.message.specs.Places.{GetsAt};
+ghost use Rattle.octets.specs.Reads.{Gets};
 ghost use Rattle.message.specs.Reads.{Reads};
-ghost use Rattle.message.specs.Submit.{submit as submit_field, submission, submitted, operation_put};
+ghost use Rattle.message.specs.Submit.{submit as submit_field, submitted, operation_put};
 ghost use Rattle.message.specs.Writes.{TooLong, Writes};
 
 use super::code::Code;
-use super::fields::{signature_at, stamp_at, written_at};
-use super::head::submit_head;
+use super::fields::take_written;
+use super::head::take_submit_head;
+use super::kind::Kind;
 use super::parts::{fill, value_parts};
-use super::place::Place;
 use super::refusal::Refusal;
 use super::whole::{whole, zero};
-use octets::BadField;
+use octets::{BadField, take_number, take_span};
 
-/// The kind of a submit, its first byte.
-pub(crate) const SUBMIT: u8 = 1;
-
-/// What a site asks of the host, with its parts by their places in the bytes that it was read from.
+/// What a site asks of the host.
 #[derive(Clone, Copy)]
-pub struct Submit {
+pub struct Submit<'a> {
     pub site: u8,
+    // Kept: the code stands beside the value as in the message, since a writer takes any two of them.
     pub code: Code,
     pub register: u8,
     pub timestamp: u32,
-    pub submit_signature: usize,
-    pub value: Option<Place>,
-    pub data_signature: usize,
+    pub submit_signature: &'a [u8],
+    pub value: Option<&'a [u8]>,
+    pub data_signature: &'a [u8],
 }
 
-fn submit_fields(bytes: &[u8], n: u8, g: usize) -> Result<(Submit, usize), BadField>
-    ensures { GetsAt (submit_field n g) (submission g bytes.now) bytes.now 0 result }
+fn take_submit(bytes: &[u8], n: u8, g: usize) -> Result<(Submit<'_>, &[u8]), BadField>
+    ensures { Gets (submit_field n g) submitted bytes.now result }
 {
-    let (head, at) = submit_head(bytes, n)?;
-    let (site, code, register) = head;
-    let (timestamp, at) = stamp_at(bytes, at)?;
-    let (submit_signature, at) = signature_at(bytes, at, g)?;
-    let (value, at) = written_at(bytes, at, code)?;
-    let (data_signature, at) = signature_at(bytes, at, g)?;
+    let ((site, code, register), rest) = take_submit_head(bytes, n)?;
+    let (timestamp, rest) = take_number(rest)?;
+    let (submit_signature, rest) = take_span(rest, g)?;
+    let (value, rest) = take_written(rest, code)?;
+    let (data_signature, rest) = take_span(rest, g)?;
     Ok((
         Submit {
             site,
@@ -50,34 +47,20 @@ fn submit_fields(bytes: &[u8], n: u8, g: usize) -> Result<(Submit, usize), BadFi
             value,
             data_signature,
         },
-        at,
+        rest,
     ))
 }
 
-impl Submit {
+impl<'a> Submit<'a> {
     /// Reads bytes that are to be a submit in a group of `n` sites, with signatures of `g` bytes, and nothing else.
-    pub fn read(n: u8, g: usize, bytes: &[u8]) -> Result<Submit, Refusal>
-        ensures reads { Reads n (submit_field n g) (submission g bytes.now) bytes.now result }
+    pub fn read(n: u8, g: usize, bytes: &'a [u8]) -> Result<Submit<'a>, Refusal>
+        ensures reads { Reads n (submit_field n g) submitted bytes.now result }
         ensures undoes { Undoes (submit_field n g) }
     {
-        let _ = zero(n)?;
-        whole(bytes, submit_fields(bytes, n, g))
+        zero(n)?;
+        whole(bytes, take_submit(bytes, n, g))
     }
-}
 
-/// What a site asks of the host, as parts that are to be written.
-#[derive(Clone, Copy)]
-pub struct SubmitParts<'a> {
-    pub site: u8,
-    pub code: Code,
-    pub register: u8,
-    pub timestamp: u32,
-    pub submit_signature: &'a [u8],
-    pub value: Option<&'a [u8]>,
-    pub data_signature: &'a [u8],
-}
-
-impl SubmitParts<'_> {
     /// Writes the submit to the front of `out` and answers how many bytes it took.
     pub fn write(&self, out: &mut [u8]) -> Result<usize, Refusal>
         ensures { (n g : ℕ) → Writes (submit_field n g) (submitted self.now) (TooLong (submitted self.now).value) out.old out.new result }
@@ -86,11 +69,13 @@ impl SubmitParts<'_> {
         let head = submit_start(self.site, self.code, self.register, self.timestamp);
         fill(
             out,
-            &head,
-            self.submit_signature,
-            &size,
-            value,
-            self.data_signature,
+            &[
+                &head,
+                self.submit_signature,
+                &size,
+                value,
+                self.data_signature,
+            ],
         )
     }
 }
@@ -99,6 +84,7 @@ impl SubmitParts<'_> {
 pub fn submit_start(site: u8, code: Code, register: u8, timestamp: u32) -> [u8; 8]
     ensures { result ≡ operation_put site code register timestamp }
 {
+    let kind = Kind::Submit.number();
     let [a, b, c, d] = timestamp.to_be_bytes();
-    [SUBMIT, site, code.number(), register, a, b, c, d]
+    [kind, site, code.number(), register, a, b, c, d]
 }

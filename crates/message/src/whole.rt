@@ -10,21 +10,20 @@ use version::Version;
 pub(crate) fn zero(n: u8) -> Result<Version, Refusal>
     ensures { Sized n result }
 {
-    match Version::zero(n) {
-        Ok(zero) => Ok(zero),
-        Err(_) => Err(Refusal::OutOfRange),
-    }
+    Version::zero(n).map_err(|_| Refusal::OutOfRange)
 }
 
-// The message, if its last field ends with the bytes.
-pub(crate) fn whole<M: Drop>(bytes: &[u8], got: Result<(M, usize), BadField>) -> Result<M, Refusal>
-    ensures { Ended bytes.now got result }
+// The message, if nothing is left behind its last field.
+pub(crate) fn whole<'a, M: Drop>(
+    bytes: &[u8],
+    got: Result<(M, &'a [u8]), BadField>,
+) -> Result<M, Refusal>
+    ensures { Ended bytes.now got.entry result }
 {
     match got {
-        Ok(found) => {
-            let (message, end) = found;
-            if end < bytes.len() {
-                return Err(Refusal::BadField(end));
+        Ok((message, rest)) => {
+            if !rest.is_empty() {
+                return Err(Refusal::BadField(bytes.len().saturating_sub(rest.len())));
             }
             Ok(message)
         }

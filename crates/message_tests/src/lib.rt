@@ -3,9 +3,7 @@
 
 #[cfg(test)]
 mod tests {
-    use message::{
-        Code, Commit, CommitParts, Refusal, Submit, SubmitParts, data_string, submit_string,
-    };
+    use message::{Code, Commit, Refusal, Submit, Text};
     use std::test::Fail;
     use version::Version;
 
@@ -16,17 +14,17 @@ mod tests {
             assert!(rt; false);
             return Ok(());
         };
-        let parts = CommitParts {
+        let commit = Commit {
             site: 1,
-            version: &version,
+            version,
             commit_signature: &[7; 32],
             proof_signature: &[8; 32],
         };
         let mut short = [0xa5; 137];
-        assert!(rt; parts.write(&mut short) == Err(Refusal::BufferTooShort));
+        assert!(rt; commit.write(&mut short) == Err(Refusal::BufferTooShort));
         assert!(rt; short == [0xa5; 137]);
         let mut exact = [0xa5; 138];
-        assert!(rt; parts.write(&mut exact) == Ok(138));
+        assert!(rt; commit.write(&mut exact) == Ok(138));
         assert!(rt; Commit::read(2, 32, &exact).is_ok());
         Ok(())
     }
@@ -36,7 +34,7 @@ mod tests {
     fn long_values(rt: HostRuntime) -> Result<(), Fail> {
         let bytes = [9; 513];
         let mut out = [0; 600];
-        let long = SubmitParts {
+        let long = Submit {
             site: 2,
             code: Code::Write,
             register: 2,
@@ -46,16 +44,17 @@ mod tests {
             data_signature: &[2; 8],
         };
         assert!(rt; long.write(&mut out) == Err(Refusal::ValueTooLong));
-        let parts = SubmitParts {
+        let submit = Submit {
             value: Some(&bytes[0..512]),
             ..long
         };
-        assert!(rt; parts.write(&mut out) == Ok(538));
+        assert!(rt; submit.write(&mut out) == Ok(538));
         match Submit::read(2, 8, &out[0..538]) {
-            Ok(submit) => {
+            Ok(read) => {
                 assert!(rt;
-                    submit.site == 2 && submit.timestamp == 1 && submit.data_signature == 530
+                    read.site == 2 && read.timestamp == 1 && read.data_signature == &out[530..538]
                 );
+                assert!(rt; read.value == Some(&bytes[0..512]));
                 Ok(())
             },
             Err(_) => {
@@ -68,10 +67,10 @@ mod tests {
     #[test]
     fn strings(rt: HostRuntime) {
         let mut out = [0; 12];
-        assert!(rt; submit_string(Code::Read, 3, 258, &mut out) == Ok(10));
+        assert!(rt; Text::Submit(Code::Read, 3, 258).write(&mut out) == Ok(10));
         assert!(rt; out == *b"SUBM\x01\x03\0\0\x01\x02\0\0");
-        assert!(rt; data_string(5, None, &mut out) == Ok(8));
+        assert!(rt; Text::Data(5, None).write(&mut out) == Ok(8));
         assert!(rt; out == *b"DATA\0\0\0\x05\x01\x02\0\0");
-        assert!(rt; data_string(5, Some(&[1; 32]), &mut out) == Err(Refusal::BufferTooShort));
+        assert!(rt; Text::Data(5, Some(&[1; 32])).write(&mut out) == Err(Refusal::BufferTooShort));
     }
 }

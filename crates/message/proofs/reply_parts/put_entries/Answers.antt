@@ -8,7 +8,7 @@ loop-entry-init c =
     let p = c.in_ok-at.ensures in
     let l = puts_length p in
     let w = p.room in
-    (omega arith, puts_none c.in_ok-at.at c.put_u8.new.out (omega arith))
+    (omega arith, puts_none c.in_ok-at.at c.put_number.new.out (omega arith))
 
 pub returns-in_err-at-2 : goal.returns-in_err-at-2
 returns-in_err-at-2 c =

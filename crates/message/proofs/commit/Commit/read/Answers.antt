@@ -1,6 +1,6 @@
 use Rattle.octets.proofs.Laws.{undoes}
 use Rattle.std.proofs.lemmas.Result.{err_from_is_err_and}
-use Rattle.message.specs.Commit.{commit, commitment}
+use Rattle.message.specs.Commit.{commit, committed}
 use Rattle.message.proofs.Laws.{commit_law}
 use Rattle.message.proofs.Ending.{reads_whole}
 use Rattle.message.proofs.commit.Commit.read.Goals as goal
@@ -15,7 +15,6 @@ pub returns : goal.returns
 returns c =
     let n = c.args.n in
     let g = c.args.g in
-    let bs = c.args.bytes.now in
     let u = undoes (commit_law n g) in
     let z = c.in_ok-zero.ensures in
-    record { reads = reads_whole n (commit n g) (commitment g bs) bs _ _ u (λ k. (c.type_inv.bytes k).fits) z.0 (rw z.1 at c.commit_fields.ensures) c.whole.ensures; undoes = u }
+    record { reads = reads_whole n (commit n g) committed c.args.bytes.now _ _ u (λ k. (c.type_inv.bytes k).fits) z.0 (rw z.1 at c.take_commit.ensures) c.whole.ensures; undoes = u }

@@ -2,7 +2,8 @@ use Rattle.octets.proofs.Laws.{undoes}
 use Rattle.std.proofs.lemmas.Result.{err_from_is_err_and}
 use Rattle.message.specs.Reply.{reply, response}
 use Rattle.message.proofs.Laws.{reply_law}
-use Rattle.message.proofs.Ending.{reads_whole, reply_placed}
+use Rattle.message.proofs.Ending.{reads_whole}
+use Rattle.message.proofs.Placing.{reply_placed}
 use Rattle.message.proofs.reply.Reply.read.Goals as goal
 
 pub returns-in_err-zero : goal.returns-in_err-zero
@@ -18,8 +19,5 @@ returns c =
     let bs = c.args.bytes.now in
     let u = undoes (reply_law n g) in
     let z = c.in_ok-zero.ensures in
-    record {
-      reads = reads_whole n (reply n g) (response g bs n) bs _ _ u (λ k. (c.type_inv.bytes k).fits) z.0 (rw z.1 at c.reply_fields.ensures.got) c.whole.ensures;
-      placed = reply_placed g bs c.reply_fields.result c.whole.result c.reply_fields.ensures.placed c.whole.ensures;
-      undoes = u;
-    }
+    let r = reads_whole n (reply n g) (response g n) bs _ _ u (λ k. (c.type_inv.bytes k).fits) z.0 (rw z.1 at c.take_reply.ensures) c.whole.ensures in
+    record { reads = r; placed = reply_placed n g bs c.whole.result (λ k. (c.type_inv.bytes k).fits) r; undoes = u }

@@ -1,6 +1,6 @@
 use Rattle.octets.proofs.Laws.{undoes}
 use Rattle.std.proofs.lemmas.Result.{err_from_is_err_and}
-use Rattle.message.specs.Slots.{version_slot, stored_version}
+use Rattle.message.specs.Slots.{version_slot, version_stored}
 use Rattle.message.proofs.Laws.{version_slot_law}
 use Rattle.message.proofs.Ending.{reads_whole}
 use Rattle.message.proofs.slot.VersionSlot.read.Goals as goal
@@ -15,7 +15,6 @@ pub returns : goal.returns
 returns c =
     let n = c.args.n in
     let g = c.args.g in
-    let bs = c.args.bytes.now in
     let u = undoes (version_slot_law n g) in
     let z = c.in_ok-zero.ensures in
-    record { reads = reads_whole n (version_slot n g) (stored_version g bs) bs _ _ u (λ k. (c.type_inv.bytes k).fits) z.0 (rw z.1 at c.version_slot_fields.ensures) c.whole.ensures; undoes = u }
+    record { reads = reads_whole n (version_slot n g) version_stored c.args.bytes.now _ _ u (λ k. (c.type_inv.bytes k).fits) z.0 (rw z.1 at c.take_version_slot.ensures) c.whole.ensures; undoes = u }

@@ -1,6 +1,6 @@
 use Rattle.octets.proofs.Laws.{undoes}
 use Rattle.std.proofs.lemmas.Result.{err_from_is_err_and}
-use Rattle.message.specs.Submit.{submit, submission}
+use Rattle.message.specs.Submit.{submit, submitted}
 use Rattle.message.proofs.Laws.{submit_law}
 use Rattle.message.proofs.Ending.{reads_whole}
 use Rattle.message.proofs.submit.Submit.read.Goals as goal
@@ -15,6 +15,6 @@ pub returns : goal.returns
 returns c =
     let n = c.args.n in
     let g = c.args.g in
-    let bs = c.args.bytes.now in
     let u = undoes (submit_law n g) in
-    record { reads = reads_whole n (submit n g) (submission g bs) bs _ _ u (λ k. (c.type_inv.bytes k).fits) c.in_ok-zero.ensures.0 c.submit_fields.ensures c.whole.ensures; undoes = u }
+    let z = c.in_ok-zero.ensures in
+    record { reads = reads_whole n (submit n g) submitted c.args.bytes.now _ _ u (λ k. (c.type_inv.bytes k).fits) z.0 c.take_submit.ensures c.whole.ensures; undoes = u }
