@@ -2,20 +2,25 @@ ghost use Rattle.std.specs.Prelude.{◌≡◌};
 ghost use Rattle.rules.specs.Numbers.{fault_number};
 ghost use Rattle.rules.specs.declared.fault.Fault.TheVariants.{Message, Store};
 
-use std::fmt;
+use thiserror::Error;
 
 /// Why the host refused a message. A refused message changes nothing.
-#[derive(Clone, Copy, Debug, PartialEq, Eq)]
+#[derive(Clone, Copy, Debug, PartialEq, Eq, Error)]
 pub enum Fault {
     /// The bytes do not read: the reader's refusal, with the offset.
+    #[error("{0}")]
     Message(message::Refusal),
     /// A submit is not the site's next operation, or a commit not that of its last one.
+    #[error("the message is out of order for its site")]
     OutOfOrder,
     /// The list has an entry for each site already.
+    #[error("too many operations are not committed yet")]
     ListFull,
     /// The store's fault.
+    #[error("{0}")]
     Store(store::Fault),
     /// The buffer is too short for the reply.
+    #[error("the buffer is too short")]
     BufferTooShort,
 }
 
@@ -24,6 +29,7 @@ impl Fault {
     pub fn number(&self) -> u8
         ensures { result ≡ fault_number self.now }
     {
+        // Kept: two variants carry a refusal with a number of its own, so no `as` reads a number off the enum.
         match self {
             Fault::Message(refusal) => refusal.number(),
             Fault::OutOfOrder => 8,
@@ -47,17 +53,5 @@ impl From<store::Fault> for Fault {
 
     fn from(e: store::Fault) -> Fault {
         Fault::Store(e)
-    }
-}
-
-impl fmt::Display for Fault {
-    fn fmt<W: fmt::Write>(&self, f: &mut fmt::Formatter<W>) -> fmt::Result {
-        match self {
-            Fault::Message(refusal) => write!(f, "{refusal}"),
-            Fault::OutOfOrder => write!(f, "the message is out of order for its site"),
-            Fault::ListFull => write!(f, "too many operations are not committed yet"),
-            Fault::Store(fault) => write!(f, "{fault}"),
-            Fault::BufferTooShort => write!(f, "the buffer is too short"),
-        }
     }
 }

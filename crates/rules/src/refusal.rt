@@ -1,26 +1,34 @@
 ghost use Rattle.std.specs.Prelude.{◌≡◌};
 ghost use Rattle.rules.specs.Numbers.{refusal_number};
 
-use std::fmt;
+use thiserror::Error;
 
 /// Why a site refused a call. A refused call changes nothing and hands the ticket back.
-#[derive(Clone, Copy, Debug, PartialEq, Eq)]
+#[derive(Clone, Copy, Debug, PartialEq, Eq, Error)]
 pub enum Refusal {
     /// The register is none of the group's.
+    #[error("the group has no such register")]
     OutOfRange,
     /// The site is stopped or retired.
+    #[error("the site is stopped or retired")]
     OutOfService,
     /// The site is waiting at a begin, or the ticket is not its waiting operation.
+    #[error("this is not the site's waiting operation")]
     OutOfTurn,
     /// The value has more than 512 bytes.
+    #[error("the value is too long")]
     ValueTooLong,
     /// The site's timestamp is the greatest that there is.
+    #[error("the site's timestamp cannot rise")]
     TimestampLimit,
     /// Fewer than four signatures are left at a begin, or fewer than two at a finish.
+    #[error("the site has too few signatures left")]
     TooFewSignatures,
     /// The bytes are no reply to the waiting operation: the first bad, incomplete or surplus field begins at this offset.
+    #[error("a bad, incomplete or surplus field begins at byte {0}")]
     BadField(usize),
     /// The buffer is too short for the message.
+    #[error("the buffer is too short")]
     BufferTooShort,
 }
 
@@ -29,6 +37,7 @@ impl Refusal {
     pub fn number(&self) -> u8
         ensures { result ≡ refusal_number self.now }
     {
+        // Kept: one variant has an offset, so no `as` reads a number off the enum, and a `From` would only hold this match.
         match self {
             Refusal::OutOfRange => 1,
             Refusal::OutOfService => 2,
@@ -38,24 +47,6 @@ impl Refusal {
             Refusal::TooFewSignatures => 6,
             Refusal::BadField(_) => 7,
             Refusal::BufferTooShort => 11,
-        }
-    }
-}
-
-impl fmt::Display for Refusal {
-    fn fmt<W: fmt::Write>(&self, f: &mut fmt::Formatter<W>) -> fmt::Result {
-        match self {
-            Refusal::OutOfRange => write!(f, "the group has no such register"),
-            Refusal::OutOfService => write!(f, "the site is stopped or retired"),
-            Refusal::OutOfTurn => write!(f, "this is not the site's waiting operation"),
-            Refusal::ValueTooLong => write!(f, "the value is too long"),
-            Refusal::TimestampLimit => write!(f, "the site's timestamp cannot rise"),
-            Refusal::TooFewSignatures => write!(f, "the site has too few signatures left"),
-            Refusal::BadField(offset) => write!(
-                f,
-                "a bad, incomplete or surplus field begins at byte {offset}"
-            ),
-            Refusal::BufferTooShort => write!(f, "the buffer is too short"),
         }
     }
 }
