@@ -27,13 +27,13 @@ module _ (g : ℕ) (H : List ℕ → List ℕ) (M : SchemeMeaning) (s : SiteStat
   n = length s.version
 
   abbrev pub a : Response
-  a = response g bs n m
+  a = response g n m
 
   abbrev pub p : Setup
   p = setup n g H
 
   reads : read_reply p ad.code bs ≡ Ok a
-  reads = ad.reads.0 H ∙ ap (λ (k : ℕ). Ok (response g bs k m)) ad.reads.1
+  reads = ad.reads.0 H ∙ ap (λ (k : ℕ). Ok (response g k m)) ad.reads.1
 
   -- a check that fails
   pub stopped_by : (was : List ℕ) → room ≡ length was → (stop : Stop) → Verifies p M s.number s.version r a (Err stop) → StoppedBy p M s (in_phase s Stopped) t bs was stop
@@ -84,12 +84,12 @@ module _ (g : ℕ) (H : List ℕ → List ℕ) (M : SchemeMeaning) (s : SiteStat
         register = r;
         reply = a;
         commit = record { site = i; version = slots w.version; commit_signature = c.first; proof_signature = c.second };
-        place = place_of m.found;
+        place = place_of g (length bs) m.found;
       }
 
       pub completed_by :
           (d : Completion) × Finished p M M' s (record { number = i; version = slots w.version; last = s.last; phase = Idle }) t bs was is d
-          × (place_of m.found ≡ d.place) × (end ≡ commit_size p)
+          × (place_of g (length bs) m.found ≡ d.place) × (end ≡ commit_size p)
       unfolding done
       completed_by = (
         done,
@@ -104,7 +104,7 @@ module _ (g : ℕ) (H : List ℕ → List ℕ) (M : SchemeMeaning) (s : SiteStat
           between = c.between;
           commits = c.commits;
           proves = subst (λ (z : Option (List ℕ)). Made g c.between M' i (proof_string (unwrap_or z [])) c.second) own_digest c.proves;
-          place = placed g bs m.found ad.reads.2.ends;
+          place = placed g bs m.found ad.reads.3;
           after = λ j. record { number = i; version = version_is j; last = s.last; phase = Idle };
           out = c.written.after ∙ rw size;
         },

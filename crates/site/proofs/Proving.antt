@@ -19,10 +19,10 @@ told : {r b : Bool} → r ≡ b → Decides r (b ≡ true)
 told e = (λ h. sym e ∙ h, λ h. e ∙ h)
 
 -- a digest that is there
-pub proved : (g size : ℕ) (bs : List ℕ) (n at site : ℕ) (m : SchemeMeaning) (o : Option (List ℕ)) (d : List ℕ) (r : Bool) → Member n site → size ≡ g → o ≡ Some d
-    → r ≡ m.valid site (proof_string d) (bytes_at bs (at + size * (site - 1)) g) → Decides r (Proved m site o (proof_of (signatures g bs n at) site))
-proved g size bs n at site m None d r h s e v = let z : ◌≡◌ {A = ℕ} 0 1 = cc in absurd (omega arith)
-proved g size bs n at site m (Some x) d r h s e v =
-    let p = proof_place g bs n at site h in
+pub proved : (g : ℕ) (bs : List ℕ) (n site : ℕ) (m : SchemeMeaning) (o : Option (List ℕ)) (d : List ℕ) (r : Bool) → Member n site → o ≡ Some d
+    → r ≡ m.valid site (proof_string d) (bytes_at bs (0 + g * (site - 1)) g) → Decides r (Proved m site o (proof_of (signatures g bs n 0) site))
+proved g bs n site m None d r h e v = let z : ◌≡◌ {A = ℕ} 0 1 = cc in absurd (omega arith)
+proved g bs n site m (Some x) d r h e v =
+    let p = proof_place g bs n 0 site h in
     let q : x ≡ d = cc in
-    rw (p, q) (told (rw s at v))
+    rw (p, q) (told v)

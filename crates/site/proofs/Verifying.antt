@@ -3,7 +3,6 @@ use Rattle.std.proofs.Common.{◌≡◌, ℕ, ◌<◌, List, [], ◌∷◌, leng
 use Rattle.std.specs.Option.{option_map}
 use Rattle.message.specs.declared.reply.Found.{Found}
 use Rattle.message.specs.declared.reply.Reply.{Reply}
-use Rattle.message.specs.Places.{bytes_at}
 use Rattle.message.specs.Reply.{Listed, Held, Response, held, response}
 use Rattle.rules.specs.declared.phase.Phase.{Phase}
 use Rattle.rules.specs.declared.phase.Phase.TheVariants.{Idle}
@@ -17,8 +16,9 @@ use Rattle.signature.specs.Meaning.{SchemeMeaning}
 use Rattle.version.specs.Order.{Slot, AtOrBelow}
 use Rattle.version.specs.Version.{slots}
 use Rattle.site.specs.declared.running.Running.{Running}
-use Rattle.site.specs.Checking.{EntriesAnswer, Verifies, ZeroOrSigned, answered, setup_of, site_with, size_of}
+use Rattle.site.specs.Checking.{EntriesAnswer, Verifies, ZeroOrSigned, answered, site_with, size_of}
 use Rattle.site.specs.Running.{running, committed}
+use Rattle.site.specs.State.{setup}
 use Rattle.site.proofs.Entering.{risen_length}
 
 -- the entries of other sites leave the group's size, and what is counted of the site i
@@ -64,23 +64,23 @@ module _ (p : Setup) (m : SchemeMeaning) (s : SiteState) (r : ℕ) (a : Response
   answer_fails OwnerTimestamp l h = (c, f, l, h)
 
 -- the whole of a reply, once its committed version is signed and follows the site's
-module _ (g : ℕ) (H : List ℕ → List ℕ) (M : SchemeMeaning) (i : ℕ) (v : List Slot) (r : ℕ) (bs : List ℕ) (m : Reply)
-    (signed : ZeroOrSigned M m.committer (slots m.version) (bytes_at bs m.commit_signature g)) (follows : AtOrBelow v (slots m.version) × ((slot v i).timestamp ≡ (slot (slots m.version) i).timestamp))
+module _ (g : ℕ) (H : List ℕ → List ℕ) (M : SchemeMeaning) (i : ℕ) (v : List Slot) (r : ℕ) (m : Reply)
+    (signed : ZeroOrSigned M m.committer (slots m.version) m.commit_signature.now) (follows : AtOrBelow v (slots m.version) × ((slot v i).timestamp ≡ (slot (slots m.version) i).timestamp))
     (n : ℕ) (size : size_of m ≡ n) where
   abbrev a : Response
-  a = answered g bs m
+  a = answered g m
 
   abbrev p : Setup
-  p = setup_of (size_of m) g H
+  p = setup (size_of m) g H
 
   -- the number of sites, by the site's version
-  resized : (res : Result Running Stop) → Verifies p M i v r a res → Verifies (setup_of n g H) M i v r (response g bs n m) res
-  resized res h = subst (λ (n : ℕ). Verifies (setup_of n g H) M i v r (response g bs n m) res) size h
+  resized : (res : Result Running Stop) → Verifies p M i v r a res → Verifies (setup n g H) M i v r (response g n m) res
+  resized res h = subst (λ (n : ℕ). Verifies (setup n g H) M i v r (response g n m) res) size h
 
   follow : (last : Option (List ℕ)) (phase : Phase) → Follows (site_with i v last phase) a
   follow last phase = record { above = follows.0; same = follows.1 }
 
-  pub list_stops : (stop : Stop) → EntriesStop H M i a (committed m) a.entries stop → Verifies (setup_of n g H) M i v r (response g bs n m) (Err stop)
+  pub list_stops : (stop : Stop) → EntriesStop H M i a (committed m) a.entries stop → Verifies (setup n g H) M i v r (response g n m) (Err stop)
   list_stops stop h = resized (Err stop) (λ last phase. list_fails p M (site_with i v last phase) r a signed (follow last phase) stop h)
 
   -- after the list
@@ -100,22 +100,22 @@ module _ (g : ℕ) (H : List ℕ → List ℕ) (M : SchemeMeaning) (i : ℕ) (v 
       made : running w' ≡ result H i a
       made = own ∙ ap (λ (w : Walk). rise H w i) list.1
 
-      pub found_stops : (f : Found) → m.found ≡ Some f → (stop : Stop) → FoundStops p M a (slots w'.version) r (held g bs f) stop → Verifies (setup_of n g H) M i v r (response g bs n m) (Err stop)
+      pub found_stops : (f : Found) → m.found ≡ Some f → (stop : Stop) → FoundStops p M a (slots w'.version) r (held f) stop → Verifies (setup n g H) M i v r (response g n m) (Err stop)
       found_stops f e stop h =
           let version = ap (λ (w : Walk). w.version) made in
-          let P : Option Found → Type 0 = λ o. AnswerStops p M (site_with i v None Idle) r a (option_map (held g bs) o) stop in
+          let P : Option Found → Type 0 = λ o. AnswerStops p M (site_with i v None Idle) r a (option_map held o) stop in
           resized (Err stop) (λ last phase. answer_fails p M (site_with i v last phase) r a signed (follow last phase) stop list.0 (subst P (sym e) (rw version at h)))
 
-      passes : AnswerPasses p M (site_with i v None Idle) r a a.found → Verifies (setup_of n g H) M i v r (response g bs n m) (Ok w')
+      passes : AnswerPasses p M (site_with i v None Idle) r a a.found → Verifies (setup n g H) M i v r (response g n m) (Ok w')
       passes h = resized (Ok w') (λ last phase. record { committed = signed; follows = follow last phase; list = list.0; answer = h }, made)
 
-      pub found_passes : (f : Found) → m.found ≡ Some f → FoundPasses p M a (slots w'.version) r (held g bs f) → Verifies (setup_of n g H) M i v r (response g bs n m) (Ok w')
+      pub found_passes : (f : Found) → m.found ≡ Some f → FoundPasses p M a (slots w'.version) r (held f) → Verifies (setup n g H) M i v r (response g n m) (Ok w')
       found_passes f e h =
           let version = ap (λ (w : Walk). w.version) made in
-          let P : Option Found → Type 0 = λ o. AnswerPasses p M (site_with i v None Idle) r a (option_map (held g bs) o) in
+          let P : Option Found → Type 0 = λ o. AnswerPasses p M (site_with i v None Idle) r a (option_map held o) in
           passes (subst P (sym e) (rw version at h))
 
-      pub none_passes : m.found ≡ None → Verifies (setup_of n g H) M i v r (response g bs n m) (Ok w')
+      pub none_passes : m.found ≡ None → Verifies (setup n g H) M i v r (response g n m) (Ok w')
       none_passes e =
-          let P : Option Found → Type 0 = λ o. AnswerPasses p M (site_with i v None Idle) r a (option_map (held g bs) o) in
+          let P : Option Found → Type 0 = λ o. AnswerPasses p M (site_with i v None Idle) r a (option_map held o) in
           passes (subst P (sym e) tt)

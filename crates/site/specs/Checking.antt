@@ -1,11 +1,8 @@
 -- What the calls answer that check a reply.
-use Rattle.std.specs.Prelude.{◌≡◌, ℕ, zero, suc, ◌+◌, ◌*◌, ◌<◌, ◌≤◌, true, ◌⊎◌, List, length, Some, None, Ok, Err, Option, Result}
+use Rattle.std.specs.Prelude.{◌≡◌, ℕ, zero, suc, true, ◌⊎◌, List, length, None, Ok, Err, Option, Result}
 use Rattle.std.specs.Option.{option_map}
-use Rattle.message.specs.declared.place.Place.{Place}
-use Rattle.message.specs.declared.reply.Found.{Found}
 use Rattle.message.specs.declared.reply.Reply.{Reply}
-use Rattle.message.specs.Places.{bytes_at}
-use Rattle.message.specs.Reply.{Listed, Held, Response, reply, response, FoundBefore}
+use Rattle.message.specs.Reply.{Listed, Held, Response, reply, response}
 use Rattle.message.specs.Strings.{commit_string, data_string}
 use Rattle.rules.specs.declared.phase.Phase.{Phase}
 use Rattle.rules.specs.declared.stop.Stop.{Stop}
@@ -18,37 +15,16 @@ use Rattle.version.specs.Version.{slots}
 use Rattle.site.specs.declared.running.Running.{Running}
 use Rattle.site.specs.Running.{running}
 
--- a signature of g bytes stands at a place, and n of them one behind the other
-abbrev pub SignatureAt : ℕ → List ℕ → ℕ → Type 0
-SignatureAt g bs at = length (bytes_at bs at g) ≡ g
-
-abbrev pub SignaturesAt : ℕ → List ℕ → ℕ → ℕ → Type 0
-SignaturesAt g bs n at = (k : ℕ) → k < n → SignatureAt g bs (at + g * k)
-
--- a value, where there is one, lies within the bytes
-abbrev pub ValueWithin : List ℕ → Option Place → Type 0
-ValueWithin bs None = Unit {0}
-ValueWithin bs (Some place) = place.offset + place.length ≤ length bs
-
--- how many sites a reply's version speaks of, and the reply of such a group that its places into the bytes stand for
+-- how many sites a reply's version speaks of, and the reply of such a group that it stands for
 abbrev pub size_of : Reply → ℕ
 size_of m = length (slots m.version)
 
-abbrev pub answered : ℕ → List ℕ → Reply → Response
-answered g bs m = response g bs (size_of m) m
+abbrev pub answered : ℕ → Reply → Response
+answered g m = response g (size_of m) m
 
--- What holds of every reply that was read: it has the form of its group's replies, and a value that was found stands in front of
--- the data signature, which ends the bytes.
-pub record WellRead (g : ℕ) (bs : List ℕ) (m : Reply) : Type 0 where
-  pub good : (reply (size_of m) g).Good (answered g bs m)
-  pub ends : FoundBefore g bs m.found (length bs)
-
--- and of what a read found, in a group of n sites
-pub record WellFound (g : ℕ) (bs : List ℕ) (n : ℕ) (f : Found) : Type 0 where
-  pub size : length (slots f.version) ≡ n
-  pub commit : SignatureAt g bs f.commit_signature
-  pub signed : SignatureAt g bs f.data_signature
-  pub value : ValueWithin bs f.value
+-- every reply that was read has the form of its group's replies
+abbrev pub WellRead : ℕ → Reply → Type 0
+WellRead g m = (reply (size_of m) g).Good (answered g m)
 
 -- a version is zero, or signed by the site i
 abbrev pub ZeroOrSigned : SchemeMeaning → ℕ → List Slot → List ℕ → Type 0
@@ -74,9 +50,6 @@ module _ (H : List ℕ → List ℕ) (m : SchemeMeaning) (i : ℕ) (a : Response
 abbrev pub FoundAnswer : Setup → SchemeMeaning → Response → List Slot → ℕ → Held → Result (Unit {0}) Stop → Type 0
 FoundAnswer p m a v r h (Ok _) = FoundPasses p m a v r h
 FoundAnswer p m a v r h (Err stop) = FoundStops p m a v r h stop
-
-abbrev pub setup_of : ℕ → ℕ → (List ℕ → List ℕ) → Setup
-setup_of n g H = record { size = n; signature = g; digest = H }
 
 abbrev pub site_with : ℕ → List Slot → Option (List ℕ) → Phase → SiteState
 site_with i v last phase = record { number = i; version = v; last = last; phase = phase }

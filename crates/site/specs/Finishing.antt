@@ -1,6 +1,7 @@
 -- What the inner calls of a finish answer, and what the writing of its commit leaves.
-use Rattle.std.specs.Prelude.{◌≡◌, ℕ, ◌+◌, ◌*◌, ◌≤◌, cond, not, ◌&&◌, List, [], ◌++◌, length, Some, None, Ok, Err, Option, Result, ◌==◌, nat_lt, slice_index}
+use Rattle.std.specs.Prelude.{◌≡◌, ℕ, ◌+◌, ◌-◌, ◌*◌, ◌≤◌, cond, not, ◌&&◌, List, [], ◌++◌, length, Some, None, Ok, Err, Option, Result, ◌==◌, nat_lt, slice_index}
 use Rattle.std.specs.Option.{unwrap_or}
+use Rattle.std.specs.Borrow.{Bor}
 use Rattle.octets.specs.Numbers.{big_endian}
 use Rattle.octets.specs.Puts.{Puts}
 use Rattle.message.specs.declared.code.Code.{Code}
@@ -8,6 +9,7 @@ use Rattle.message.specs.declared.place.Place.{Place}
 use Rattle.message.specs.declared.reply.Found.{Found}
 use Rattle.message.specs.declared.reply.Reply.{Reply}
 use Rattle.message.specs.Code.{code_number}
+use Rattle.message.specs.Reply.{FoundBefore}
 use Rattle.message.specs.Strings.{commit_string, proof_string}
 use Rattle.rules.specs.declared.refusal.Refusal.{Refusal}
 use Rattle.rules.specs.declared.refusal.Refusal.TheVariants.{OutOfRange, OutOfService, OutOfTurn, ValueTooLong, TimestampLimit, TooFewSignatures, BadField, BufferTooShort}
@@ -20,10 +22,14 @@ use Rattle.version.specs.Order.{Slot}
 use Rattle.site.specs.Checking.{WellRead, answered, size_of}
 use Rattle.site.specs.State.{setup}
 
--- where the value stands that was found
-abbrev pub place_of : Option Found → Option Place
-place_of None = None
-place_of (Some f) = f.value
+-- where the value stands that was found, in so many bytes that end with a data signature of g
+abbrev pub place_before : ℕ → ℕ → Option (Bor (List ℕ)) → Option Place
+place_before g size None = None
+place_before g size (Some v) = Some (record { offset = size - g - length v.now; length = length v.now })
+
+abbrev pub place_of : ℕ → ℕ → Option Found → Option Place
+place_of g size None = None
+place_of g size (Some f) = place_before g size f.value
 
 -- a site that has finished an operation has a digest of its own
 abbrev pub Told : Option (List ℕ) → Type 0
@@ -33,7 +39,7 @@ Told (Some d) = Unit {0}
 -- the reply to an operation with the code c in a group of n sites, or the offset of the first field that is bad; whatever the digest
 abbrev pub ReadsReply : ℕ → ℕ → Code → List ℕ → Result Reply Refusal → Type 0
 ReadsReply n g c bs (Ok m) =
-    ((digest : List ℕ → List ℕ) → read_reply (setup n g digest) c bs ≡ Ok (answered g bs m)) × (size_of m ≡ n) × WellRead g bs m
+    ((digest : List ℕ → List ℕ) → read_reply (setup n g digest) c bs ≡ Ok (answered g m)) × (size_of m ≡ n) × WellRead g m × FoundBefore g bs m.found
 ReadsReply n g c bs (Err OutOfRange) = ⊥
 ReadsReply n g c bs (Err OutOfService) = ⊥
 ReadsReply n g c bs (Err OutOfTurn) = ⊥

@@ -8,6 +8,7 @@ ghost use Rattle.site.specs.State.{state};
 
 use super::state::Site;
 use rules::{Phase, Refusal};
+use signature::Scheme;
 use version::Version;
 
 impl Site {
@@ -54,9 +55,13 @@ impl Site {
     pub(crate) fn own(&self) -> u32
         ensures { result ≡ own_of (state self.now) }
     {
-        let Ok(own) = self.version.timestamp(self.number) else {
-            unreachable()
-        };
-        own
+        self.version.timestamp(self.number).unwrap()
+    }
+
+    // How many signatures it has left.
+    pub(crate) fn left<S: Scheme>(&self, scheme: &S) -> u32
+        ensures { result ≡ (S.Scheme.means scheme.now).left self.now.number }
+    {
+        scheme.left(self.number).unwrap()
     }
 }

@@ -1,6 +1,6 @@
 //! What a finish can be refused for, before the reply is checked.
 
-ghost use Rattle.std.specs.Prelude.{◌≡◌, slice_index};
+ghost use Rattle.std.specs.Prelude.{◌≡◌};
 ghost use Rattle.version.specs.Shape.{Size};
 ghost use Rattle.site.specs.Finishing.{Admits, ReadsReply, offset_for};
 ghost use Rattle.site.specs.State.{state, operation_named};
@@ -13,25 +13,22 @@ use signature::Scheme;
 
 impl Site {
     // The register of the ticket's operation and the reply to it, if the site waits for it, can sign, and `room` bytes are enough.
-    pub(crate) fn admit<S: Scheme>(
+    pub(crate) fn admit<'a, S: Scheme>(
         &self,
         scheme: &S,
         ticket: &Ticket,
-        bytes: &[u8],
+        bytes: &'a [u8],
         room: usize,
-    ) -> Result<(u8, Reply), Refusal>
-        ensures { Admits S.Scheme.len (S.Scheme.means scheme.now) (state self.now) (operation_named ticket.now) bytes.now room result }
+    ) -> Result<(u8, Reply<'a>), Refusal>
+        ensures { Admits S.Scheme.G (S.Scheme.means scheme.now) (state self.now) (operation_named ticket.now) bytes.now room result }
     {
         let (code, register) = self.awaited(ticket)?;
-        let Ok(left) = scheme.left(self.number) else {
-            unreachable()
-        };
-        if left < 2 {
+        if self.left(scheme) < 2 {
             return Err(Refusal::TooFewSignatures);
         }
         let size = self.version.size();
-        let reply = read_reply(code, size, S::size(), bytes)?;
-        if room < 2 + 36 * size as usize + 2 * S::size() {
+        let reply = read_reply(code, size, S::G, bytes)?;
+        if room < 2 + 36 * size as usize + 2 * S::G {
             return Err(Refusal::BufferTooShort);
         }
         Ok((register, reply))
@@ -39,24 +36,22 @@ impl Site {
 }
 
 // Reads the reply to an operation: the code of another makes the code a bad field.
-fn read_reply(code: Code, size: u8, g: usize, bytes: &[u8]) -> Result<Reply, Refusal>
+fn read_reply(code: Code, size: u8, g: usize, bytes: &[u8]) -> Result<Reply<'_>, Refusal>
     requires { Size size }
     ensures { ReadsReply size g code bytes.now result }
 {
     match Reply::read(size, g, bytes) {
         Ok(reply) => {
-            if reply.code == code {
+            if reply.code() == code {
                 Ok(reply)
             } else {
                 Err(Refusal::BadField(1))
             }
         }
-        Err(refusal) => match refusal {
-            message::Refusal::BadField(offset) => {
-                Err(Refusal::BadField(first_bad(code, bytes, offset)))
-            }
-            _ => unreachable(),
-        },
+        Err(message::Refusal::BadField(offset)) => {
+            Err(Refusal::BadField(first_bad(code, bytes, offset)))
+        }
+        Err(_) => unreachable!(),
     }
 }
 
@@ -64,16 +59,10 @@ fn read_reply(code: Code, size: u8, g: usize, bytes: &[u8]) -> Result<Reply, Ref
 fn first_bad(code: Code, bytes: &[u8], offset: usize) -> usize
     ensures { result ≡ offset_for code bytes.now offset }
 {
-    if 1 < offset && second(bytes) != code.number() {
+    let second = bytes.get(1).copied().unwrap_or(0);
+    if 1 < offset && second != code.number() {
         1
     } else {
         offset
     }
-}
-
-// The second byte, 0 if there is none.
-fn second(bytes: &[u8]) -> u8
-    ensures { result ≡ slice_index bytes.now 1 }
-{
-    if 1 < bytes.len() { bytes[1] } else { 0 }
 }

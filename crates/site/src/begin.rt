@@ -1,20 +1,19 @@
 //! Beginning an operation.
 
-ghost use Rattle.std.specs.Prelude.{◌≡◌, ℕ, List, length, None};
-ghost use Rattle.std.specs.Option.{option_map};
-ghost use Rattle.message.specs.Writes.{TooLong};
-ghost use Rattle.rules.specs.Begin.{Request, read_of, write_of};
+ghost use Rattle.std.specs.Prelude.{◌≡◌, ℕ, List, length};
+ghost use Rattle.rules.specs.Begin.{Short, read_of, write_of};
 ghost use Rattle.version.specs.Shape.{digest_bytes};
 ghost use Rattle.version.specs.Version.{slots};
 ghost use Rattle.site.specs.Calls.{BeginsWith};
 ghost use Rattle.site.specs.State.{state, setup};
 ghost use Rattle.site.specs.Steps.{Nexts};
-ghost use Rattle.site.specs.Submitting.{Asks, value_bytes};
+ghost use Rattle.site.specs.Submitting.{Asks, asked};
 
+use super::request::Request;
 use super::state::Site;
 use super::ticket::Ticket;
 use digest::Digest;
-use message::{Code, MAX_VALUE};
+use message::MAX_VALUE;
 use rules::{Phase, Refusal};
 use signature::Scheme;
 
@@ -32,14 +31,14 @@ impl Site {
         register: u8,
         out: &mut [u8],
     ) -> Result<Begun, Refusal>
-        ensures { (digest : List ℕ → List ℕ) → BeginsWith (setup (length (slots self.old.version)) S.Scheme.len digest) (S.Scheme.means scheme.old) (S.Scheme.means scheme.new) (state self.old) (state self.new) (read_of register) out.old out.new result }
+        ensures { (digest : List ℕ → List ℕ) → BeginsWith (setup (length (slots self.old.version)) S.Scheme.G digest) (S.Scheme.means scheme.old) (S.Scheme.means scheme.new) (state self.old) (state self.new) (read_of register) out.old out.new result }
     {
         if register < 1 || self.version.size() < register {
             return Err(Refusal::OutOfRange);
         }
         self.idle()?;
         let last = self.last;
-        self.begin(scheme, Code::Read, register, no_value(), last, out)
+        self.begin(scheme, Request::Read(register), last, out)
     }
 
     /// Begins to write a value to the site's own register: the submit for the host is written to the front of `out`.
@@ -50,36 +49,33 @@ impl Site {
         value: &[u8],
         out: &mut [u8],
     ) -> Result<Begun, Refusal>
-        ensures { BeginsWith (setup (length (slots self.old.version)) S.Scheme.len D.Digest.means) (S.Scheme.means scheme.old) (S.Scheme.means scheme.new) (state self.old) (state self.new) (write_of value.now) out.old out.new result }
+        ensures { BeginsWith (setup (length (slots self.old.version)) S.Scheme.G D.Digest.means) (S.Scheme.means scheme.old) (S.Scheme.means scheme.new) (state self.old) (state self.new) (write_of value.now) out.old out.new result }
     {
         self.idle()?;
         if MAX_VALUE < value.len() {
             return Err(Refusal::ValueTooLong);
         }
         let last = Some(digest.digest(value));
-        let register = self.number;
-        self.begin(scheme, Code::Write, register, Some(value), last, out)
+        self.begin(scheme, Request::Write(value), last, out)
     }
 
     // Begins an operation of an idle site; `last` is the digest of its last value, this one included.
     fn begin<S: Scheme>(
         &mut self,
         scheme: &mut S,
-        code: Code,
-        register: u8,
-        value: Option<&[u8]>,
+        request: Request,
         last: Option<[u8; 32]>,
         out: &mut [u8],
     ) -> Result<Begun, Refusal>
-        requires short { TooLong (option_map (λ x. x.now) value) → ⊥ }
+        requires short { Short (asked request) }
         requires wide { length (digest_bytes last) ≡ 32 }
-        ensures { (q : Request) (digest : List ℕ → List ℕ) → Asks (setup (length (slots self.old.version)) S.Scheme.len digest) (state self.old) q code register (option_map (λ x. x.now) value.entry) last → BeginsWith (setup (length (slots self.old.version)) S.Scheme.len digest) (S.Scheme.means scheme.old) (S.Scheme.means scheme.new) (state self.old) (state self.new) q out.old out.new result }
+        ensures { (digest : List ℕ → List ℕ) → Asks (setup (length (slots self.old.version)) S.Scheme.G digest) (state self.old) (asked request.entry) last → BeginsWith (setup (length (slots self.old.version)) S.Scheme.G digest) (S.Scheme.means scheme.old) (S.Scheme.means scheme.new) (state self.old) (state self.new) (asked request.entry) out.old out.new result }
     {
-        let size = 10 + 2 * S::size() + value_size(value);
+        let size = 10 + 2 * S::G + request.size();
         let timestamp = self.next(scheme, size, out.len())?;
         self.last = last;
-        self.phase = Phase::Waiting(code, register);
-        let length = self.write_submit(scheme, code, register, timestamp, value, out);
+        self.phase = Phase::Waiting(request.code(), request.register(self.number));
+        let length = self.write_submit(scheme, request, timestamp, out);
         let ticket = Ticket::of(self.number, timestamp);
         Ok(Begun { ticket, length })
     }
@@ -88,34 +84,13 @@ impl Site {
     fn next<S: Scheme>(&self, scheme: &S, size: usize, room: usize) -> Result<u32, Refusal>
         ensures { Nexts (S.Scheme.means scheme.now) (state self.now) size room result }
     {
-        let Some(timestamp) = self.own().checked_add(1) else {
-            return Err(Refusal::TimestampLimit);
-        };
-        let Ok(left) = scheme.left(self.number) else {
-            unreachable()
-        };
-        if left < 4 {
+        let timestamp = self.own().checked_add(1).ok_or(Refusal::TimestampLimit)?;
+        if self.left(scheme) < 4 {
             return Err(Refusal::TooFewSignatures);
         }
         if room < size {
             return Err(Refusal::BufferTooShort);
         }
         Ok(timestamp)
-    }
-}
-
-// What a read has in the place of a value.
-fn no_value() -> Option<&'static [u8]>
-    ensures { option_map (λ x. x.now) result ≡ None }
-{
-    None
-}
-
-fn value_size(value: Option<&[u8]>) -> usize
-    ensures { result ≡ value_bytes (option_map (λ x. x.now) value.entry) }
-{
-    match value {
-        Some(bytes) => bytes.len(),
-        None => 0,
     }
 }

@@ -5,12 +5,11 @@ ghost use Rattle.message.specs.Reply.{response};
 ghost use Rattle.rules.specs.Group.{Member, max_timestamp, slot};
 ghost use Rattle.version.specs.Order.{AtOrBelow};
 ghost use Rattle.version.specs.Version.{slots};
-ghost use Rattle.site.specs.Checking.{WellRead, Verifies, setup_of, size_of};
+ghost use Rattle.site.specs.Checking.{WellRead, Verifies, size_of};
+ghost use Rattle.site.specs.State.{setup};
 
-use super::entries::check_entries;
-use super::found::check_found;
+use super::checker::Checker;
 use super::running::Running;
-use super::signed::version_signed;
 use super::versions::{at_or_below, timestamp_of};
 use digest::Digest;
 use message::Reply;
@@ -18,54 +17,40 @@ use rules::Stop;
 use signature::Scheme;
 use version::Version;
 
-/// Checks a reply to an operation of the site `number` on `register`, and answers the version that the site has after it.
-pub(crate) fn verify<S: Scheme, D: Digest>(
-    scheme: &S,
-    digest: &D,
-    number: u8,
-    version: &Version,
-    register: u8,
-    bytes: &[u8],
-    reply: &Reply,
-) -> Result<Running, Stop>
-    requires read { WellRead S.Scheme.len bytes.now reply.now }
-    requires sizes { size_of reply.now ≡ length (slots version.now) }
-    requires member { Member (length (slots version.now)) number }
-    requires below { (slot (slots version.now) number).timestamp < max_timestamp }
-    ensures { Verifies (setup_of (length (slots version.now)) S.Scheme.len D.Digest.means) (S.Scheme.means scheme.now) number (slots version.now) register (response S.Scheme.len bytes.now (length (slots version.now)) reply.now) result }
-{
-    if !version_signed(
-        scheme,
-        reply.committer,
-        &reply.version,
-        bytes,
-        reply.commit_signature,
-    ) {
-        return Err(Stop::CommitSignature);
+impl<S: Scheme, D: Digest> Checker<'_, S, D> {
+    /// Checks a reply to an operation of the site on `register`, where the site has this version, and answers the version that it
+    /// has afterwards.
+    pub(crate) fn verify(
+        &self,
+        version: &Version,
+        register: u8,
+        reply: &Reply,
+    ) -> Result<Running, Stop>
+        requires read { WellRead S.Scheme.G reply.now }
+        requires sizes { size_of reply.now ≡ length (slots version.now) }
+        requires member { Member (length (slots version.now)) self.now.number }
+        requires below { (slot (slots version.now) self.now.number).timestamp < max_timestamp }
+        ensures { Verifies (setup (length (slots version.now)) S.Scheme.G D.Digest.means) (S.Scheme.means self.now.scheme.now) self.now.number (slots version.now) register (response S.Scheme.G (length (slots version.now)) reply.now) result }
+    {
+        if !self.version_signed(reply.committer, &reply.version, reply.commit_signature) {
+            return Err(Stop::CommitSignature);
+        }
+        if !self.follows(version, &reply.version) {
+            return Err(Stop::Forked);
+        }
+        let mut running = self.check_entries(reply)?;
+        running.rise(self.digest, self.number);
+        if let Some(found) = &reply.found {
+            self.check_found(register, reply, &running.version, found)?;
+        }
+        Ok(running)
     }
-    if !follows(number, version, &reply.version) {
-        return Err(Stop::Forked);
-    }
-    let mut running = check_entries(scheme, digest, number, bytes, reply)?;
-    running.rise(digest, number);
-    if let Some(found) = &reply.found {
-        check_found(
-            scheme,
-            digest,
-            register,
-            bytes,
-            reply,
-            &running.version,
-            found,
-        )?;
-    }
-    Ok(running)
-}
 
-// Whether the committed version is at or above the site's, and counts the same of its operations.
-fn follows(number: u8, version: &Version, committed: &Version) -> bool
-    ensures { Decides result (AtOrBelow (slots version.now) (slots committed.now) × ((slot (slots version.now) number).timestamp ≡ (slot (slots committed.now) number).timestamp)) }
-{
-    at_or_below(version, committed)
-        && timestamp_of(version, number) == timestamp_of(committed, number)
+    // Whether the committed version is at or above the site's, and counts the same of its operations.
+    fn follows(&self, version: &Version, committed: &Version) -> bool
+        ensures { Decides result (AtOrBelow (slots version.now) (slots committed.now) × ((slot (slots version.now) self.now.number).timestamp ≡ (slot (slots committed.now) self.now.number).timestamp)) }
+    {
+        at_or_below(version, committed)
+            && timestamp_of(version, self.number) == timestamp_of(committed, self.number)
+    }
 }

@@ -7,7 +7,7 @@ ghost use Rattle.site.specs.Finishing.{place_of};
 ghost use Rattle.site.specs.State.{state, setup};
 
 use super::abandon::Kept;
-use super::checks::verify;
+use super::checker::Checker;
 use super::state::Site;
 use super::ticket::Ticket;
 use digest::Digest;
@@ -41,27 +41,24 @@ impl Site {
         bytes: &[u8],
         out: &mut [u8],
     ) -> Result<Finished, Unfinished>
-        ensures { FinishesWith (setup (length (slots self.old.version)) S.Scheme.len D.Digest.means) (S.Scheme.means scheme.old) (S.Scheme.means scheme.new) (state self.old) (state self.new) ticket bytes.now out.old out.new result }
+        ensures { FinishesWith (setup (length (slots self.old.version)) S.Scheme.G D.Digest.means) (S.Scheme.means scheme.old) (S.Scheme.means scheme.new) (state self.old) (state self.new) ticket bytes.now out.old out.new result }
     {
         let (register, reply) = match self.admit(scheme, &ticket, bytes, out.len()) {
             Ok(admitted) => admitted,
             Err(refusal) => return Err(Unfinished::Refused(Kept { ticket, refusal })),
         };
         ticket.spend();
-        match verify(
-            scheme,
+        let checker = Checker {
+            scheme: &*scheme,
             digest,
-            self.number,
-            &self.version,
-            register,
-            bytes,
-            &reply,
-        ) {
+            number: self.number,
+        };
+        match checker.verify(&self.version, register, &reply) {
             Ok(running) => {
                 self.version = running.version;
                 self.phase = Phase::Idle;
                 let length = self.write_commit(scheme, out);
-                let value = found_place(&reply);
+                let value = found_place(&reply, bytes.len(), S::G);
                 Ok(Finished { length, value })
             }
             Err(stop) => {
@@ -72,12 +69,12 @@ impl Site {
     }
 }
 
-// Where the value stands that was found.
-fn found_place(reply: &Reply) -> Option<Place>
-    ensures { result ≡ place_of reply.now.found }
+// Where the value stands that was found, in a reply of `size` bytes that ends with its data signature of `g` bytes.
+fn found_place(reply: &Reply, size: usize, g: usize) -> Option<Place>
+    ensures { result ≡ place_of g size reply.now.found }
 {
-    match &reply.found {
-        Some(found) => found.value,
-        None => None,
-    }
+    let value = reply.found.as_ref()?.value?;
+    let length = value.len();
+    let offset = size.saturating_sub(g).saturating_sub(length);
+    Some(Place { offset, length })
 }

@@ -39,27 +39,24 @@ impl Running {
         ensures { running self.new ≡ risen D.Digest.means (running self.old) site }
     {
         let mut room = [0; LINK_SIZE];
-        let end = link(&self.digest, site, &mut room);
-        let history = digest.digest(&room[0..end]);
-        let Ok(()) = self.version.raise(site, history) else {
-            unreachable()
-        };
+        let history = digest.digest(link(&self.digest, site, &mut room));
+        self.version.raise(site, history).unwrap();
         self.digest = Some(history);
     }
 }
 
-// Writes what is digested when an operation of `site` follows, and answers how many bytes it has.
-fn link(digest: &Option<[u8; LEN]>, site: u8, room: &mut [u8; LINK_SIZE]) -> usize
-    ensures { (result ≤ 33) × (take result room.new ≡ link_string digest.now site) }
+// What is digested when an operation of `site` follows, written to the front of `room`.
+fn link<'r>(digest: &Option<[u8; LEN]>, site: u8, room: &'r mut [u8; LINK_SIZE]) -> &'r [u8]
+    ensures { result.now ≡ link_string digest.now site }
 {
     match digest {
         Some(digest) => {
             link_after(digest, site, room);
-            LINK_SIZE
+            &room[..]
         }
         None => {
             room[0] = site;
-            1
+            &room[..1]
         }
     }
 }

@@ -1,13 +1,13 @@
 //! Writing the submit of an operation that was just begun.
 
 ghost use Rattle.std.specs.Prelude.{◌+◌, ◌*◌, ◌≤◌, length};
-ghost use Rattle.std.specs.Option.{option_map};
-ghost use Rattle.message.specs.Writes.{TooLong};
-ghost use Rattle.site.specs.Submitting.{Submits, value_bytes};
+ghost use Rattle.rules.specs.Begin.{Short, value_size};
+ghost use Rattle.site.specs.Submitting.{Submits, asked};
 
-use super::sign::{place, sign_data, sign_submit};
+use super::request::Request;
+use super::sign::{place, sign};
 use super::state::Site;
-use message::{Code, submit_start, value_parts};
+use message::{Text, submit_start, value_parts};
 use signature::Scheme;
 
 impl Site {
@@ -15,26 +15,25 @@ impl Site {
     pub(crate) fn write_submit<S: Scheme>(
         &self,
         scheme: &mut S,
-        code: Code,
-        register: u8,
+        request: Request,
         timestamp: u32,
-        value: Option<&[u8]>,
         out: &mut [u8],
     ) -> usize
-        requires short { TooLong (option_map (λ x. x.now) value) → ⊥ }
+        requires short { Short (asked request) }
         requires two { 2 ≤ (S.Scheme.means scheme.old).left self.now.number }
-        requires room { 10 + 2 * S.Scheme.len + value_bytes (option_map (λ x. x.now) value) ≤ length out.old }
-        ensures { Submits S.Scheme.len (S.Scheme.means scheme.old) (S.Scheme.means scheme.new) self.now.number code register timestamp (option_map (λ x. x.now) value.entry) self.now.last out.old out.new result }
+        requires room { 10 + 2 * S.Scheme.G + value_size (asked request) ≤ length out.old }
+        ensures { Submits S.Scheme.G (S.Scheme.means scheme.old) (S.Scheme.means scheme.new) self.now.number (asked request.entry) timestamp self.now.last out.old out.new result }
     {
-        let Ok(parts) = value_parts(value) else {
-            unreachable()
-        };
-        let (size, value) = parts;
+        let (size, value) = value_parts(request.value()).unwrap();
+        let code = request.code();
+        let register = request.register(self.number);
         let head = submit_start(self.number, code, register, timestamp);
+        let submit = Text::Submit(code, register, timestamp);
+        let data = Text::Data(timestamp, self.last.as_ref());
         let at = place(out, 0, &head);
-        let at = sign_submit(scheme, self.number, code, register, timestamp, out, at);
+        let at = sign(scheme, self.number, &submit, out, at);
         let at = place(out, at, &size);
         let at = place(out, at, value);
-        sign_data(scheme, self.number, timestamp, self.last.as_ref(), out, at)
+        sign(scheme, self.number, &data, out, at)
     }
 }

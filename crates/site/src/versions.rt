@@ -6,7 +6,7 @@ ghost use Rattle.version.specs.Order.{AtOrBelow};
 ghost use Rattle.version.specs.Version.{slots};
 
 use digest::LEN;
-use version::{Order, Version};
+use version::Version;
 
 /// How many operations of `site` a version counts: none of a site that its group does not have.
 pub(crate) fn timestamp_of(version: &Version, site: u8) -> u32
@@ -23,24 +23,18 @@ pub(crate) fn digest_of(version: &Version, site: u8) -> Option<[u8; LEN]>
 }
 
 /// Whether a version counts no operation.
+#[tactic(auto, using(version::proofs::OrderLaws::equal))]
 pub(crate) fn is_zero(version: &Version) -> bool
     ensures { Decides result (slots version.now ≡ zeros (length (slots version.now))) }
 {
-    let Ok(zero) = Version::zero(version.size()) else {
-        unreachable()
-    };
-    match version.compare(&zero) {
-        Ok(Order::Equal) => true,
-        _ => false,
-    }
+    let zero = Version::zero(version.size()).unwrap();
+    *version == zero
 }
 
 /// Whether a version is at or below another.
+#[tactic(auto, using(version::proofs::OrderLaws::at_or_below))]
 pub(crate) fn at_or_below(left: &Version, right: &Version) -> bool
     ensures { Decides result (AtOrBelow (slots left.now) (slots right.now)) }
 {
-    match left.compare(right) {
-        Ok(Order::Equal | Order::Below) => true,
-        _ => false,
-    }
+    *left <= *right
 }

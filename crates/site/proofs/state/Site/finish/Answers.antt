@@ -8,7 +8,7 @@ pub invariant_of-self : goal.invariant_of-self
 invariant_of-self g c =
     let s = c.args.self.now in
     let l : length (slots c.in-Ok-verify.running.version) ≡ length (slots s.version) =
-    version_length_is g.S.Scheme.len g.D.Digest.means (g.S.Scheme.means c.args.scheme.now) (state s) (operation_named c.args.ticket) c.args.bytes.now (length c.args.out.now) c.in-Ok.admitted.0 c.in-Ok.admitted.1
+    version_length_is g.S.Scheme.G g.D.Digest.means (g.S.Scheme.means c.args.scheme.now) (state s) (operation_named c.args.ticket) c.args.bytes.now (length c.args.out.now) c.in-Ok.admitted.0 c.in-Ok.admitted.1
     c.in-Ok.ensures c.in-Ok-verify.running c.in-Ok-verify.ensures (s.low, s.high) in
     record { low = s.low; high = omega (arith, s.high, l); wide = s.wide }
 
@@ -17,11 +17,11 @@ write_commit-length-requires g c =
     let s = c.args.self.now in
     let ad = c.in-Ok.ensures in
     let l : length (slots c.in-Ok-verify.running.version) ≡ length (slots s.version) =
-    version_length_is g.S.Scheme.len g.D.Digest.means (g.S.Scheme.means c.args.scheme.now) (state s) (operation_named c.args.ticket) c.args.bytes.now (length c.args.out.now) c.in-Ok.admitted.0 c.in-Ok.admitted.1
+    version_length_is g.S.Scheme.G g.D.Digest.means (g.S.Scheme.means c.args.scheme.now) (state s) (operation_named c.args.ticket) c.args.bytes.now (length c.args.out.now) c.in-Ok.admitted.0 c.in-Ok.admitted.1
     ad c.in-Ok-verify.running c.in-Ok-verify.ensures (s.low, s.high) in
     record {
       told =
-          told g.S.Scheme.len g.D.Digest.means (g.S.Scheme.means c.args.scheme.now) (state s) (operation_named c.args.ticket) c.args.bytes.now (length c.args.out.now) c.in-Ok.admitted.0 c.in-Ok.admitted.1
+          told g.S.Scheme.G g.D.Digest.means (g.S.Scheme.means c.args.scheme.now) (state s) (operation_named c.args.ticket) c.args.bytes.now (length c.args.out.now) c.in-Ok.admitted.0 c.in-Ok.admitted.1
           ad c.in-Ok-verify.running c.in-Ok-verify.ensures (s.low, s.high);
       two = ad.two;
       room = omega (arith, ad.fits, l);
@@ -31,15 +31,15 @@ pub returns-in-Ok-verify : goal.returns-in-Ok-verify
 returns-in-Ok-verify g c =
     let s = c.args.self.now in
     let done =
-    completed_by g.S.Scheme.len g.D.Digest.means (g.S.Scheme.means c.args.scheme.now) (state s) (operation_named c.args.ticket) c.args.bytes.now (length c.args.out.now) c.in-Ok.admitted.0 c.in-Ok.admitted.1
+    completed_by g.S.Scheme.G g.D.Digest.means (g.S.Scheme.means c.args.scheme.now) (state s) (operation_named c.args.ticket) c.args.bytes.now (length c.args.out.now) c.in-Ok.admitted.0 c.in-Ok.admitted.1
     c.in-Ok.ensures c.in-Ok-verify.running c.in-Ok-verify.ensures (s.low, s.high) (g.S.Scheme.means c.write_commit-length.new.scheme) c.args.out.now c.write_commit-length.new.out
     c.write_commit-length.result refl c.write_commit-length.ensures in
-    (done.0, done.1, c.found_place-value.ensures ∙ done.2, done.3)
+    (done.0, done.1, rw c.G.ensures at c.found_place-value.ensures ∙ done.2, done.3)
 
 pub returns-in-Err-verify : goal.returns-in-Err-verify
 returns-in-Err-verify g c =
     let s = c.args.self.now in (
-      stopped_by g.S.Scheme.len g.D.Digest.means (g.S.Scheme.means c.args.scheme.now) (state s) (operation_named c.args.ticket) c.args.bytes.now (length c.args.out.now) c.in-Ok.admitted.0 c.in-Ok.admitted.1
+      stopped_by g.S.Scheme.G g.D.Digest.means (g.S.Scheme.means c.args.scheme.now) (state s) (operation_named c.args.ticket) c.args.bytes.now (length c.args.out.now) c.in-Ok.admitted.0 c.in-Ok.admitted.1
           c.in-Ok.ensures c.args.out.now refl c.in-Err-verify.stop c.in-Err-verify.ensures,
       refl,
       refl,
