@@ -1,13 +1,12 @@
 -- Slots written into a buffer that has room for any.
-use Rattle.std.proofs.Common.{◌≡◌, ℕ, ◌+◌, ◌-◌, ◌≤◌, List, length, take, drop, Some, None, Ok, Err, Option, Result, sym, refl, ap, arith}
-use native.Mathlib.Nat.{min-le_left}
+use Rattle.std.proofs.Common.{◌≡◌, ℕ, ◌+◌, ◌≤◌, List, length, take, drop, Some, None, Ok, Err, Option, Result, sym, refl, arith}
+use Rattle.std.specs.Result.{IsOk}
 use Rattle.std.proofs.lemmas.List.FromFn.{length-map-range_with_len}
-use Rattle.std.proofs.lemmas.List.{length-append, length-take, take_at}
+use Rattle.std.proofs.lemmas.List.{length-append, take_at}
 use Rattle.std.proofs.lemmas.Bool.{cases_lt}
 use Rattle.octets.specs.Field.{Field}
 use Rattle.octets.proofs.Numbers.{length-big_endian}
 use Rattle.version.specs.declared.version.Version.{Version}
-use Rattle.version.specs.Order.{Slot as Stamp}
 use Rattle.version.specs.Version.{slot_of, slots}
 use Rattle.version.proofs.LayoutLaws.{version-length}
 use Rattle.message.specs.declared.refusal.Refusal.{Refusal}
@@ -15,24 +14,20 @@ use Rattle.message.specs.declared.refusal.Refusal.TheVariants.{OutOfRange, Value
 use Rattle.message.specs.Fields.{value}
 use Rattle.message.specs.Slots.{StoredValue, value_slot, version_slot}
 use Rattle.message.specs.Writes.{TooLong, Writes}
-use Rattle.store.specs.declared.fault.Fault.{Fault}
-use Rattle.store.specs.declared.fault.Fault.TheVariants.{OutOfRange as NoSite, TooLong as SlotTooLong, NoRewriteLeft, BufferTooShort as NoRoom}
-use Rattle.store.specs.declared.slot.Slot.{Slot}
-use Rattle.store.specs.declared.slot.Slot.TheVariants.{Version as Of-version}
-use Rattle.store.specs.Calls.{Site, Writes as WritesSlot}
-use Rattle.store.specs.Limits.{max_slot}
-use Rattle.store.specs.Meaning.{StoreMeaning}
-use Rattle.host.specs.Keeps.{Keeps}
 
 -- what fits is written, and stands in front
-pub never_refused : {A : Type 0} (f : Field A) (m : A) (long : Type 0) (was is : List ℕ) (e : Refusal) → (long → ⊥) → length (f.put m) ≤ length was → Writes f m long was is (Err e) → ⊥
-never_refused f m long was is OutOfRange short room h = h
-never_refused f m long was is ValueTooLong short room h = short h.0
-never_refused f m long was is (BadField offset) short room h = h
-never_refused f m long was is BufferTooShort short room h = let k = h.1 in omega arith
+pub fits : {A : Type 0} (f : Field A) (m : A) (long : Type 0) (was is : List ℕ) (r : Result ℕ Refusal) → Writes f m long was is r → (long → ⊥) → length (f.put m) ≤ length was → IsOk r
+fits f m long was is (Ok end) h short room = refl
+fits f m long was is (Err OutOfRange) h short room = absurd h
+fits f m long was is (Err ValueTooLong) h short room = absurd (short h.0)
+fits f m long was is (Err (BadField offset)) h short room = absurd h
+fits f m long was is (Err BufferTooShort) h short room = let k = h.1 in absurd (omega arith)
 
-pub written : {A : Type 0} (f : Field A) (m : A) (long : Type 0) (was is : List ℕ) (end : ℕ) → Writes f m long was is (Ok end) → (end ≡ length (f.put m)) × (take end is ≡ f.put m)
-written f m long was is end h = (h.1, rw h.2 (take_at (f.put m) (drop end was) end (sym h.1)))
+pub written : {A : Type 0} (f : Field A) (m : A) (long : Type 0) (was is : List ℕ) (r : Result ℕ Refusal) (end : ℕ) → r ≡ Ok end → Writes f m long was is r
+    → (end ≡ length (f.put m)) × (take end is ≡ f.put m)
+written f m long was is r end e h =
+    let w = rw e at h in
+    (w.1, rw w.2 (take_at (f.put m) (drop end was) end (sym w.1)))
 
 -- at most 36 bytes for each of eight sites, and two signatures
 pub eight_sites : (v : Version) → length (slots v) ≤ 8
@@ -56,27 +51,3 @@ value_slot_size g v h s =
     let k = value_size v.value h in
     let t = length-big_endian 4 v.timestamp in
     simp length-append (omega arith)
-
--- a slot that is not too long, for a site that there is
-keeps : (m m' : StoreMeaning) (s : Slot) (i : ℕ) (bs : List ℕ) (r : Result (Unit {0}) Fault) → Site i → length bs ≤ max_slot → WritesSlot m s i bs m' r → Keeps m s i bs m' r
-keeps m m' s i bs (Ok _) site short w = (w.2, w.3)
-keeps m m' s i bs (Err NoSite) site short w = absurd (w.0 site)
-keeps m m' s i bs (Err SlotTooLong) site short w = let l = w.1 in absurd (omega arith)
-keeps m m' s i bs (Err NoRewriteLeft) site short w = (w.2, refl, w.3)
-keeps m m' s i bs (Err NoRoom) site short w = absurd w
-
--- the front of the buffer is what the store is given
-pub keeps_front : (m m' : StoreMeaning) (s : Slot) (i end : ℕ) (room bs : List ℕ) (r : Result (Unit {0}) Fault) → Site i → end ≤ max_slot → take end room ≡ bs
-    → WritesSlot m s i (take (end - 0) room) m' r → Keeps m s i bs m' r
-keeps_front m m' s i end room bs r site l e w =
-    let z : end - 0 ≡ end = omega arith in
-    let k = length-take end room in
-    let j = min-le_left end (length room) in
-    let f = ap length e in
-    keeps m m' s i bs r site (omega arith) (rw (z, e) at w)
-
--- the slot of a commit
-pub commit_kept : (m m' : StoreMeaning) (i n g : ℕ) (v : List Stamp) (cs ps cs' ps' : List ℕ) (r : Result (Unit {0}) Fault) → cs ≡ cs' → ps ≡ ps'
-    → Keeps m Of-version i ((version_slot n g).put (record { version = v; commit_signature = cs; proof_signature = ps })) m' r
-    → Keeps m Of-version i ((version_slot n g).put (record { version = v; commit_signature = cs'; proof_signature = ps' })) m' r
-commit_kept m m' i n g v cs ps cs' ps' r e f w = rw (e, f) at w

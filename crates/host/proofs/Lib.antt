@@ -1,10 +1,8 @@
 mod Committing
-mod Cutting
 mod Entering
 mod Keeping
 mod Leading
 mod Listing
-mod Loading
 mod Proving
 mod Reading
 mod Replying

@@ -1,17 +1,12 @@
 -- A submit that is taken, or refused by a check that comes after its order.
-use Rattle.std.proofs.Common.{◌≡◌, ℕ, ◌<◌, ◌≤◌, List, map, length, take, Ok, Err, Result, refl, ◌∙◌, subst}
-use Rattle.std.proofs.lemmas.List.{length-map, length-take-le}
+use Rattle.std.proofs.Common.{◌≡◌, ℕ, ◌<◌, List, length, Ok, Err, Result, refl, subst}
 use Rattle.octets.specs.Field.{read}
 use Rattle.message.specs.declared.code.Code.{Code}
 use Rattle.message.specs.declared.code.Code.TheVariants.{Read, Write}
-use Rattle.message.specs.declared.reply_parts.ListEntry.{ListEntry}
-use Rattle.message.specs.Replied.{entered}
 use Rattle.message.specs.Reply.{Response, reply}
 use Rattle.message.specs.Submit.{Submission, submit}
-use Rattle.store.specs.declared.fault.Fault.TheVariants.{NoRewriteLeft}
 use Rattle.store.specs.Meaning.{StoreMeaning}
 use Rattle.rules.specs.declared.fault.Fault.{Fault}
-use Rattle.rules.specs.declared.fault.Fault.TheVariants.{ListFull, Store}
 use Rattle.rules.specs.Group.{Setup, HostState}
 use Rattle.rules.specs.Taking.{NextSubmit, found_at, replied}
 use Rattle.host.specs.Calls.{SubmitTaken}
@@ -19,20 +14,10 @@ use Rattle.host.specs.Enters.{Enters, reply_then, value_then}
 use Rattle.host.specs.Replies.{found_by}
 use Rattle.host.specs.Says.{NextSubmitEnters}
 
--- as many entries as the host counts
-pub list_length : (g count : ℕ) (list : List ListEntry) → count ≤ length list → length (map (entered g) (take count list)) ≡ count
-list_length g count list le = length-map (take count list) (entered g) ∙ length-take-le count list le
-
 module _ (p : Setup) (h : HostState) (m : StoreMeaning) (bs was : List ℕ) (a : Submission) (reads : read (submit p.size p.signature) bs ≡ Ok a)
     (order : NextSubmitEnters p.size p.signature m a.site a.timestamp) where
   next : NextSubmit p m a
   next = record { next = order.0; done = order.1 }
-
-  pub full : p.size ≤ length h.list → SubmitTaken p h h m m bs was was (Err ListFull)
-  full none = ((a, reads, next, none), refl, refl, refl)
-
-  pub worn : length h.list < p.size → m.left ≡ 0 → SubmitTaken p h h m m bs was was (Err (Store NoRewriteLeft))
-  worn free none = ((a, reads, next, free, none, refl), refl, refl, refl)
 
   found_same : (c : Code) → found_by p.size p.signature m c a.site a.register (value_then p.signature m a) ≡ found_at p m a c
   found_same Read = refl

@@ -1,12 +1,10 @@
 -- What is known of a message that a host reads.
 use Rattle.std.specs.Prelude.{◌≡◌, ℕ, List, length, Ok, Err, Result}
-use Rattle.octets.specs.Field.{read}
-use Rattle.message.specs.declared.commit.Commit.{Commit}
+use Rattle.octets.specs.Field.{Field, read}
 use Rattle.message.specs.declared.refusal.Refusal.{Refusal}
 use Rattle.message.specs.declared.refusal.Refusal.TheVariants.{BadField}
-use Rattle.message.specs.declared.submit.Submit.{Submit}
-use Rattle.message.specs.Commit.{Commitment, commit, commitment}
-use Rattle.message.specs.Submit.{Submission, submit, submission}
+use Rattle.message.specs.Commit.{Commitment}
+use Rattle.message.specs.Submit.{Submission}
 use Rattle.message.specs.Writes.{TooLong}
 use Rattle.rules.specs.Group.{Member}
 
@@ -17,11 +15,6 @@ pub record FormedCommit (n g : ℕ) (c : Commitment) : Type 0 where
   pub signed : length c.commit_signature ≡ g
   pub proved : length c.proof_signature ≡ g
 
--- the commit that the bytes are, or the offset of the first bad, incomplete or surplus field
-abbrev pub ReadsCommit : ℕ → ℕ → List ℕ → Result Commit Refusal → Type 0
-ReadsCommit n g bs (Ok m) = (read (commit n g) bs ≡ Ok (commitment g bs m)) × FormedCommit n g (commitment g bs m)
-ReadsCommit n g bs (Err e) = (offset : ℕ) × (read (commit n g) bs ≡ Err offset) × (e ≡ BadField offset)
-
 -- a submit of a site of the group for a register of the group, with a value and signatures of the group's form
 pub record FormedSubmit (n g : ℕ) (a : Submission) : Type 0 where
   pub member : Member n a.site
@@ -30,6 +23,7 @@ pub record FormedSubmit (n g : ℕ) (a : Submission) : Type 0 where
   pub signed : length a.submit_signature ≡ g
   pub data_signed : length a.data_signature ≡ g
 
-abbrev pub ReadsSubmit : ℕ → ℕ → List ℕ → Result Submit Refusal → Type 0
-ReadsSubmit n g bs (Ok m) = (read (submit n g) bs ≡ Ok (submission g bs m)) × FormedSubmit n g (submission g bs m)
-ReadsSubmit n g bs (Err e) = (offset : ℕ) × (read (submit n g) bs ≡ Err offset) × (e ≡ BadField offset)
+-- the message that the bytes are, with such a form; or the offset of the first bad, incomplete or surplus field
+abbrev pub ReadsFormed : {M A : Type 0} → Field A → (M → A) → (A → Type 0) → List ℕ → Result M Refusal → Type 0
+ReadsFormed f of Formed bs (Ok m) = (read f bs ≡ Ok (of m)) × Formed (of m)
+ReadsFormed f of Formed bs (Err e) = (offset : ℕ) × (read f bs ≡ Err offset) × (e ≡ BadField offset)

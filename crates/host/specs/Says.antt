@@ -8,10 +8,8 @@ use Rattle.message.specs.Submit.{Submission}
 use Rattle.message.specs.Writes.{TooLong}
 use Rattle.store.specs.Meaning.{StoreMeaning}
 use Rattle.store.specs.declared.slot.Slot.TheVariants.{Value, Version}
-use Rattle.version.specs.Version.{slots}
 use Rattle.rules.specs.Group.{slot, zeros}
 use Rattle.rules.specs.Taking.{value_with}
-use Rattle.host.specs.declared.said.Said.{Said}
 
 abbrev pub value_in : ℕ → List ℕ → StoredValue
 value_in g bs = result_unwrap_or (read (value_slot g) bs) (record { timestamp = 0; value = None; data_signature = replicate g 0 })
@@ -51,7 +49,3 @@ NextSubmitEnters n g m i t = (t ≡ (value_of g m i).timestamp + 1) × ((value_o
 -- it is the last one submitted, and not committed yet
 abbrev pub NextCommitEnters : ℕ → ℕ → StoreMeaning → ℕ → ℕ → Type 0
 NextCommitEnters n g m i t = (t ≡ (value_of g m i).timestamp) × (t ≢ own_of n g m i)
-
--- and what one of the code says
-abbrev pub said : Said → StoredVersion
-said s = record { version = slots s.version; commit_signature = s.commit_signature.now; proof_signature = s.proof_signature.now }

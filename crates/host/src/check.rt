@@ -1,38 +1,31 @@
 //! Which submit and which commit of a site come next.
 
 ghost use Rattle.std.specs.Prelude.{◌≡◌, length, Decides};
-ghost use Rattle.rules.specs.Group.{slot as slot_of, Member};
 ghost use Rattle.version.specs.Version.{slots};
-ghost use Rattle.host.specs.Says.{NextCommitEnters, NextSubmitEnters, own_of, value_of};
+ghost use Rattle.rules.specs.Group.{slot as slot_of, Member};
+ghost use Rattle.host.specs.Says.{NextCommitEnters, NextSubmitEnters};
+ghost use Rattle.host.specs.State.{value_said, own_said};
 
 use super::host::Host;
-use super::slots::{load, value_in, version_in};
-use store::{MAX_SLOT, Slot, Store};
+use super::leads::timestamp_of;
+use store::{MAX_SLOT, Store};
 use version::Version;
 
 impl<T: Store> Host<T> {
     // The timestamp of a site's last submit.
     fn submitted(&self, site: u8) -> u32
         requires { Member self.now.size site }
-        ensures { result ≡ (value_of self.now.signature (T.Store.means self.now.store) site).timestamp }
+        ensures { result ≡ (value_said T.Store.means self.now site).timestamp }
     {
-        let mut room = [0; MAX_SLOT];
-        let end = load(&self.store, Slot::Value, site, &mut room);
-        value_in(&room[0..end], self.signature).timestamp
+        self.value_slot(site, &mut [0; MAX_SLOT]).timestamp
     }
 
     // The timestamp of a site's last commit.
     fn committed(&self, site: u8) -> u32
         requires { Member self.now.size site }
-        ensures { result ≡ own_of self.now.size self.now.signature (T.Store.means self.now.store) site }
+        ensures { result ≡ own_said T.Store.means self.now site }
     {
-        let mut room = [0; MAX_SLOT];
-        let end = load(&self.store, Slot::Version, site, &mut room);
-        let said = version_in(&room[0..end], self.size, self.signature);
-        let Ok(timestamp) = said.version.timestamp(site) else {
-            unreachable()
-        };
-        timestamp
+        timestamp_of(&self.version_slot(site, &mut [0; MAX_SLOT]).version, site)
     }
 
     // Whether a submit is the next operation of its site, whose last one is committed.
@@ -41,10 +34,7 @@ impl<T: Store> Host<T> {
         ensures { Decides result (NextSubmitEnters self.now.size self.now.signature (T.Store.means self.now.store) site timestamp) }
     {
         let last = self.submitted(site);
-        match last.checked_add(1) {
-            Some(next) => timestamp == next && last == self.committed(site),
-            None => false,
-        }
+        last.checked_add(1) == Some(timestamp) && last == self.committed(site)
     }
 
     // Whether a commit is that of its site's last submit, and not committed yet.
@@ -53,9 +43,7 @@ impl<T: Store> Host<T> {
         requires sized { length (slots version.now) ≡ self.now.size }
         ensures { Decides result (NextCommitEnters self.now.size self.now.signature (T.Store.means self.now.store) site (slot_of (slots version.now) site).timestamp) }
     {
-        let Ok(timestamp) = version.timestamp(site) else {
-            unreachable()
-        };
+        let timestamp = timestamp_of(version, site);
         timestamp == self.submitted(site) && timestamp != self.committed(site)
     }
 }

@@ -1,7 +1,7 @@
 //! Taking a commit.
 
 ghost use Rattle.std.specs.Prelude.{◌≡◌, ℕ, ◌≤◌, length, if◌then◌else◌};
-ghost use Rattle.message.specs.Commit.{commitment};
+ghost use Rattle.message.specs.Commit.{commit as commit_field, committed};
 ghost use Rattle.message.specs.Slots.{version_slot};
 ghost use Rattle.store.specs.Calls.{Site};
 ghost use Rattle.store.specs.declared.slot.Slot.TheVariants.{Version as the_version};
@@ -10,24 +10,22 @@ ghost use Rattle.rules.specs.Group.{Member};
 ghost use Rattle.rules.specs.Taking.{after_last, leads as leads_over, version_stored};
 ghost use Rattle.host.specs.Calls.{SameGroup, TakesCommitOver};
 ghost use Rattle.host.specs.Keeps.{Keeps};
-ghost use Rattle.host.specs.Messages.{ReadsCommit};
-ghost use Rattle.host.specs.Says.{version_of};
-ghost use Rattle.host.specs.State.{host_state, list_of};
+ghost use Rattle.host.specs.Messages.{FormedCommit, ReadsFormed};
+ghost use Rattle.host.specs.State.{host_state, list_of, version_said};
 
 use super::host::Host;
-use super::keep::keep_version;
+use super::keep::{keep, version_bytes};
 use super::leads::leads;
-use super::list::release;
-use super::slots::{bytes_at, load, version_in};
-use message::{Commit, Refusal, VersionSlotParts};
+use super::list::through_last;
+use message::{Commit, Refusal, VersionSlot};
 use rules::Fault;
 use store::{MAX_SLOT, Slot, Store};
 use version::Version;
 
 impl<T> Host<T> {
     // The commit that the bytes are.
-    fn read_commit(&self, bytes: &[u8]) -> Result<Commit, Refusal>
-        ensures { ReadsCommit self.now.size self.now.signature bytes.now result }
+    fn read_commit<'a>(&self, bytes: &'a [u8]) -> Result<Commit<'a>, Refusal>
+        ensures { ReadsFormed (commit_field self.now.size self.now.signature) committed (FormedCommit self.now.size self.now.signature) bytes.now result }
     {
         Commit::read(self.size, self.signature, bytes)
     }
@@ -41,7 +39,8 @@ impl<T> Host<T> {
     {
         if leading {
             self.committer = site;
-            self.count = release(&mut self.list, self.count, site);
+            let end = through_last(self.list.as_slice(), site);
+            self.list.drain(..end);
         }
     }
 }
@@ -61,8 +60,7 @@ impl<T: Store> Host<T> {
             return Err(Fault::OutOfOrder);
         }
         let leading = self.leading(&commit.version);
-        let g = self.signature;
-        keep_commit(&mut self.store, &commit, bytes, g)?;
+        keep_commit(&mut self.store, &commit)?;
         self.follow(commit.site, leading);
         Ok(())
     }
@@ -70,30 +68,27 @@ impl<T: Store> Host<T> {
     // Whether a commit with this version leads over that of the committer.
     fn leading(&self, version: &Version) -> bool
         requires { length (slots version.now) ≡ self.now.size }
-        ensures { result ≡ leads_over (slots version.now) (version_of self.now.size self.now.signature (T.Store.means self.now.store) self.now.committer).version }
+        ensures { result ≡ leads_over (slots version.now) (version_said T.Store.means self.now self.now.committer).version }
     {
         let mut room = [0; MAX_SLOT];
-        let end = load(&self.store, Slot::Version, self.committer, &mut room);
-        let said = version_in(&room[0..end], self.size, self.signature);
-        leads(version, &said.version)
+        let old = self.version_slot(self.committer, &mut room);
+        leads(version, &old.version)
     }
 }
 
-// Replaces the version slot of a commit's site. Its signatures of `g` bytes lie in `bytes`.
-fn keep_commit<'a, T: Store>(
-    store: &mut T,
-    commit: &'a Commit,
-    bytes: &'a [u8],
-    g: usize,
-) -> Result<(), store::Fault>
+// Replaces the version slot of a commit's site.
+fn keep_commit<T: Store>(store: &mut T, commit: &Commit) -> Result<(), store::Fault>
     requires site { Site commit.now.site }
-    requires signature { g ≤ 64 }
-    ensures { (n : ℕ) → Keeps (T.Store.means store.old) the_version commit.now.site ((version_slot n g).put (version_stored (commitment g bytes.now commit.now))) (T.Store.means store.new) result }
+    requires signed { length commit.now.commit_signature.now ≤ 64 }
+    requires proved { length commit.now.proof_signature.now ≤ 64 }
+    ensures { (n g : ℕ) → Keeps (T.Store.means store.old) the_version commit.now.site ((version_slot n g).put (version_stored (committed commit.now))) (T.Store.means store.new) result }
 {
-    let parts = VersionSlotParts {
-        version: &commit.version,
-        commit_signature: bytes_at(bytes, commit.commit_signature, g),
-        proof_signature: bytes_at(bytes, commit.proof_signature, g),
+    let slot = VersionSlot {
+        version: commit.version,
+        commit_signature: commit.commit_signature,
+        proof_signature: commit.proof_signature,
     };
-    keep_version(store, commit.site, &parts)
+    let mut room = [0; MAX_SLOT];
+    let bytes = version_bytes(&slot, &mut room);
+    keep(store, Slot::Version, commit.site, bytes)
 }

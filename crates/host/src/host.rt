@@ -1,8 +1,10 @@
-ghost use Rattle.std.specs.Prelude.{◌≡◌, ◌≤◌, length};
+ghost use Rattle.std.specs.Prelude.{◌≤◌};
+ghost use Rattle.arrayvec.specs.ArrayVec.{array_vec_len};
 ghost use Rattle.version.specs.Shape.{Size};
 ghost use Rattle.rules.specs.Group.{Member};
 ghost use Rattle.host.specs.Shape.{Signature};
 
+use arrayvec::ArrayVec;
 use message::ListEntry;
 
 /// The host of a register group, over any store.
@@ -15,13 +17,11 @@ pub struct Host<T> {
     // how many bytes a signature has
     pub(crate) signature: usize,
     pub(crate) committer: u8,
-    // of which the first `count` are the submits
-    pub(crate) list: [ListEntry; 8],
-    pub(crate) count: usize,
+    // at most one of each site
+    pub(crate) list: ArrayVec<ListEntry, 8>,
     pub(crate) store: T,
     ghost sized: { Size size },
     ghost signed: { Signature signature },
     ghost ranged: { Member size committer },
-    ghost few: { count ≤ size },
-    ghost whole: { length list ≡ 8 },
+    ghost few: { array_vec_len list ≤ size },
 }

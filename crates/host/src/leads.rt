@@ -2,6 +2,7 @@
 
 ghost use Rattle.std.specs.Prelude.{◌≡◌, length};
 ghost use Rattle.version.specs.Version.{slots};
+ghost use Rattle.rules.specs.Group.{slot as slot_of, Member};
 ghost use Rattle.rules.specs.Taking.{leads as leads_over};
 
 use version::Version;
@@ -12,11 +13,9 @@ pub(crate) fn leads(version: &Version, other: &Version) -> bool
     ensures { result ≡ leads_over (slots version.now) (slots other.now) }
 {
     let mut above = false;
-    for place in 0..version.size() {
-        let site = place + 1;
-        let (Ok(new), Ok(old)) = (version.timestamp(site), other.timestamp(site)) else {
-            unreachable()
-        };
+    for site in 1..=version.size() {
+        let new = timestamp_of(version, site);
+        let old = timestamp_of(other, site);
         if new < old {
             return false;
         }
@@ -25,4 +24,12 @@ pub(crate) fn leads(version: &Version, other: &Version) -> bool
         }
     }
     above
+}
+
+// The timestamp of `site` in a version of its group.
+pub(crate) fn timestamp_of(version: &Version, site: u8) -> u32
+    requires { Member (length (slots version.now)) site }
+    ensures { result ≡ (slot_of (slots version.now) site).timestamp }
+{
+    version.timestamp(site).unwrap()
 }

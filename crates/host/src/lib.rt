@@ -8,7 +8,6 @@ mod keep;
 mod leads;
 mod list;
 mod reply;
-mod said;
 mod slots;
 mod start;
 mod submit;

@@ -1,100 +1,66 @@
 //! What the slots of a store say.
 
-ghost use Rattle.std.specs.Prelude.{◌≡◌, ◌≤◌, length, take, replicate};
-ghost use Rattle.std.specs.Option.{option_map};
-ghost use Rattle.message.specs.Places.{bytes_at, part as part_at};
-ghost use Rattle.message.specs.Slots.{value_stored};
+ghost use Rattle.std.specs.Prelude.{◌≡◌, replicate};
+ghost use Rattle.message.specs.Slots.{value_stored, version_stored};
 ghost use Rattle.store.specs.Calls.{Site};
-ghost use Rattle.version.specs.Shape.{Size};
-ghost use Rattle.host.specs.Says.{FormedValue, FormedVersion, value_in, version_in, said};
+ghost use Rattle.rules.specs.Group.{Member};
+ghost use Rattle.host.specs.Says.{FormedValue, FormedVersion};
+ghost use Rattle.host.specs.State.{value_said, version_said};
 
-use super::said::Said;
-use message::{Place, ValueSlot, ValueSlotParts, VersionSlot};
+use super::host::Host;
+use message::{ValueSlot, VersionSlot};
 use signature::MAX_SIGNATURE;
 use store::{MAX_SLOT, Slot, Store};
 use version::Version;
 
 static ZEROS: [u8; MAX_SIGNATURE] = [0; MAX_SIGNATURE];
 
-// The signature of a slot that does not read.
-fn zeros(g: usize) -> &'static [u8]
-    requires { g ≤ 64 }
-    ensures { result.now ≡ replicate g 0 }
-{
-    &ZEROS[0..g]
-}
-
-// Copies a slot to the front of `room` and answers its length.
-pub(crate) fn load<T: Store>(store: &T, slot: Slot, site: u8, room: &mut [u8; MAX_SLOT]) -> usize
-    requires { Site site }
-    ensures { (result ≤ 1024) × (take result room.new ≡ (T.Store.means store.now).slot slot site) }
-{
-    let Ok(end) = store.read(slot, site, room) else {
-        unreachable()
-    };
-    end
-}
-
-// So many bytes from a place on, as far as there are any.
-pub(crate) fn bytes_at(bytes: &[u8], offset: usize, size: usize) -> &[u8]
-    ensures value { result.now ≡ bytes_at bytes.now offset size }
-    ensures short { length result.now ≤ size }
-{
-    let start = offset.min(bytes.len());
-    let end = start + size.min(bytes.len() - start);
-    &bytes[start..end]
-}
-
-// What a value slot says, or what counts where it does not read.
-pub(crate) fn value_in(bytes: &[u8], g: usize) -> ValueSlotParts<'_>
-    requires { g ≤ 64 }
-    ensures says { value_stored result ≡ value_in g bytes.now }
-    ensures formed { FormedValue g (value_stored result) }
-{
-    let Ok(slot) = ValueSlot::read(g, bytes) else {
-        return ValueSlotParts {
+// Kept: beside each other, since the two differ in their fields and in what counts where a slot does not read, which is all they
+// have. That a site is one of the group is asked here and above, and in no type, since messages give it as a number.
+impl<T: Store> Host<T> {
+    // What the value slot of `site` says, or what counts where it does not read. Its bytes are copied to `room`.
+    pub(crate) fn value_slot<'r>(&self, site: u8, room: &'r mut [u8; MAX_SLOT]) -> ValueSlot<'r>
+        requires { Member self.now.size site }
+        ensures says { value_stored result ≡ value_said T.Store.means self.now site }
+        ensures formed { FormedValue self.now.signature (value_stored result) }
+    {
+        let bytes = load(&self.store, Slot::Value, site, room);
+        ValueSlot::read(self.signature, bytes).unwrap_or(ValueSlot {
             timestamp: 0,
             value: None,
-            data_signature: zeros(g),
-        };
-    };
-    ValueSlotParts {
-        timestamp: slot.timestamp,
-        value: part(bytes, slot.value),
-        data_signature: bytes_at(bytes, slot.data_signature, g),
+            data_signature: self.zeros(),
+        })
+    }
+
+    // What the version slot of `site` says, or what counts where it does not read. Its bytes are copied to `room`.
+    pub(crate) fn version_slot<'r>(&self, site: u8, room: &'r mut [u8; MAX_SLOT]) -> VersionSlot<'r>
+        requires { Member self.now.size site }
+        ensures says { version_stored result ≡ version_said T.Store.means self.now site }
+        ensures formed { FormedVersion self.now.size self.now.signature (version_stored result) }
+    {
+        let bytes = load(&self.store, Slot::Version, site, room);
+        VersionSlot::read(self.size, self.signature, bytes).unwrap_or(VersionSlot {
+            version: Version::zero(self.size).unwrap(),
+            commit_signature: self.zeros(),
+            proof_signature: self.zeros(),
+        })
     }
 }
 
-// The part at a place, if there is one.
-pub(crate) fn part(bytes: &[u8], place: Option<Place>) -> Option<&[u8]>
-    ensures { option_map (λ x. x.now) result ≡ option_map (part_at bytes.now) place }
-{
-    match place {
-        Some(place) => Some(bytes_at(bytes, place.offset, place.length)),
-        None => None,
+impl<T> Host<T> {
+    // The signature of a slot that does not read.
+    fn zeros(&self) -> &'static [u8]
+        ensures { result.now ≡ replicate self.now.signature 0 }
+    {
+        &ZEROS[..self.signature]
     }
 }
 
-// What a version slot of a group of `n` sites says, or what counts where it does not read.
-pub(crate) fn version_in(bytes: &[u8], n: u8, g: usize) -> Said<'_>
-    requires sized { Size n }
-    requires signed { g ≤ 64 }
-    ensures says { said result ≡ version_in n g bytes.now }
-    ensures formed { FormedVersion n g (said result) }
+// Copies a slot to the front of `room` and answers that front.
+fn load<'r, T: Store>(store: &T, slot: Slot, site: u8, room: &'r mut [u8; MAX_SLOT]) -> &'r [u8]
+    requires { Site site }
+    ensures { result.now ≡ (T.Store.means store.now).slot slot site }
 {
-    let Ok(slot) = VersionSlot::read(n, g, bytes) else {
-        let Ok(version) = Version::zero(n) else {
-            unreachable()
-        };
-        return Said {
-            version,
-            commit_signature: zeros(g),
-            proof_signature: zeros(g),
-        };
-    };
-    Said {
-        version: slot.version,
-        commit_signature: bytes_at(bytes, slot.commit_signature, g),
-        proof_signature: bytes_at(bytes, slot.proof_signature, g),
-    }
+    let end = store.read(slot, site, room).unwrap();
+    &room[..end]
 }

@@ -6,7 +6,8 @@ ghost use Rattle.host.specs.Calls.{Starts};
 ghost use Rattle.host.specs.State.{list_of};
 
 use super::host::Host;
-use message::{Code, ListEntry};
+use arrayvec::ArrayVec;
+use message::ListEntry;
 use rules::Refusal;
 use signature::MAX_SIGNATURE;
 use version::MAX_SITES;
@@ -32,18 +33,11 @@ impl<T> Host<T> {
                 refusal: Refusal::OutOfRange,
             });
         }
-        let nothing = ListEntry {
-            site: 0,
-            code: Code::Read,
-            register: 0,
-            signature: [0; MAX_SIGNATURE],
-        };
         Ok(Host {
             size,
             signature,
             committer: 1,
-            list: [nothing; MAX_SITES as usize],
-            count: 0,
+            list: ArrayVec::new(),
             store,
         })
     }
@@ -74,8 +68,7 @@ impl<T> Host<T> {
     pub fn list(&self) -> &[ListEntry]
         ensures { map (entered self.now.signature) result.now ≡ list_of self.now }
     {
-        let count = self.count;
-        &self.list[0..count]
+        self.list.as_slice()
     }
 
     /// The store, as the taken submits and commits have left it.
@@ -89,14 +82,7 @@ impl<T> Host<T> {
     pub fn into_store(self) -> T
         ensures { result ≡ self.store }
     {
-        let Host {
-            size: _,
-            signature: _,
-            committer: _,
-            list: _,
-            count: _,
-            store,
-        } = self;
+        let Host { store, .. } = self;
         store
     }
 }

@@ -1,47 +1,24 @@
 //! Taking a submit.
 
-ghost use Rattle.std.specs.Prelude.{◌≡◌, ◌<◌, ◌≤◌, [], ◌∷◌, ◌++◌, length};
+ghost use Rattle.std.specs.Prelude.{◌≡◌, ◌<◌, ◌≤◌, length};
 ghost use Rattle.std.specs.Option.{option_map};
-ghost use Rattle.message.specs.Places.{bytes_at};
+ghost use Rattle.arrayvec.specs.ArrayVec.{array_vec_len};
 ghost use Rattle.message.specs.Replied.{entered};
 ghost use Rattle.message.specs.Slots.{value_stored};
-ghost use Rattle.message.specs.Submit.{submission};
-ghost use Rattle.store.specs.declared.slot.Slot.TheVariants.{Value as the_value};
+ghost use Rattle.message.specs.Submit.{submit as submit_field, submitted};
 ghost use Rattle.rules.specs.Taking.{entry_of};
 ghost use Rattle.host.specs.Calls.{SameGroup, TakesSubmitOver};
 ghost use Rattle.host.specs.Enters.{Enters};
-ghost use Rattle.host.specs.Messages.{FormedSubmit, ReadsSubmit};
+ghost use Rattle.host.specs.Messages.{FormedSubmit, ReadsFormed};
 ghost use Rattle.host.specs.Says.{stored_with};
-ghost use Rattle.host.specs.State.{host_state, list_of};
+ghost use Rattle.host.specs.State.{host_state};
 
 use super::host::Host;
-use super::keep::keep_value;
-use super::slots::{bytes_at, load, part, value_in};
-use message::{Code, ListEntry, Refusal, Submit, ValueSlotParts};
+use super::keep::{keep, value_bytes};
+use message::{Code, ListEntry, Refusal, Submit, ValueSlot};
 use rules::Fault;
 use signature::MAX_SIGNATURE;
 use store::{MAX_SLOT, Slot, Store};
-
-impl<T> Host<T> {
-    // The submit that the bytes are.
-    fn read_submit(&self, bytes: &[u8]) -> Result<Submit, Refusal>
-        ensures { ReadsSubmit self.now.size self.now.signature bytes.now result }
-    {
-        Submit::read(self.size, self.signature, bytes)
-    }
-
-    // Puts an entry behind those of the list.
-    fn push(&mut self, entry: ListEntry)
-        requires { self.old.count < self.old.size }
-        ensures state { host_state self.new ≡ record { committer = self.old.committer; list = list_of self.old ++ (entered self.old.signature entry ∷ []) } }
-        ensures store { self.new.store ≡ self.old.store }
-        ensures group { SameGroup self.old self.new }
-    {
-        let count = self.count;
-        self.list[count] = entry;
-        self.count = count + 1;
-    }
-}
 
 impl<T: Store> Host<T> {
     /// Takes a submit: enters it, and writes the reply to the front of `out` and answers how many bytes it took.
@@ -57,55 +34,54 @@ impl<T: Store> Host<T> {
         if !self.next_submit(submit.site, submit.timestamp) {
             return Err(Fault::OutOfOrder);
         }
-        if self.count >= self.size as usize {
+        if self.list.len() >= self.size as usize {
             return Err(Fault::ListFull);
         }
         if self.store.left() == 0 {
             return Err(Fault::Store(store::Fault::NoRewriteLeft));
         }
-        let mut room = [0; MAX_SLOT];
-        let end = load(&self.store, Slot::Value, submit.site, &mut room);
-        self.enter(&submit, bytes, &room[0..end], out)
+        self.enter(&submit, out)
     }
 
-    // Enters a submit whose parts lie in `bytes`, and which has passed all checks but that there is room for the reply.
-    // The value slot of its site holds `slot`.
-    fn enter<'a>(
-        &mut self,
-        submit: &Submit,
-        bytes: &'a [u8],
-        slot: &'a [u8],
-        out: &mut [u8],
-    ) -> Result<usize, Fault>
-        requires held { slot.now ≡ (T.Store.means self.old.store).slot the_value submit.now.site }
-        requires formed { FormedSubmit self.old.size self.old.signature (submission self.old.signature bytes.now submit.now) }
-        requires free { self.old.count < self.old.size }
+    // Enters a submit that has passed all checks but that there is room for the reply.
+    fn enter<'a>(&mut self, submit: &'a Submit<'a>, out: &mut [u8]) -> Result<usize, Fault>
+        requires formed { FormedSubmit self.old.size self.old.signature (submitted submit.now) }
+        requires free { array_vec_len self.old.list < self.old.size }
         requires left { 0 < (T.Store.means self.old.store).left }
-        ensures enters { Enters self.old.size self.old.signature (host_state self.old) (host_state self.new) (T.Store.means self.old.store) (T.Store.means self.new.store) (submission self.old.signature bytes.now submit.now) out.old out.new result }
+        ensures enters { Enters self.old.size self.old.signature (host_state self.old) (host_state self.new) (T.Store.means self.old.store) (T.Store.means self.new.store) (submitted submit.now) out.old out.new result }
         ensures group { SameGroup self.old self.new }
     {
-        let g = self.signature;
-        let old = value_in(slot, g);
-        let new = stored(submit, bytes, old.value, g);
-        let Ok(size) = self.reply(submit, &new, out) else {
-            return Err(Fault::BufferTooShort);
-        };
-        let Ok(()) = keep_value(&mut self.store, submit.site, &new) else {
-            unreachable()
-        };
-        self.push(list_entry(submit, bytes, g));
+        let mut old_room = [0; MAX_SLOT];
+        let old = self.value_slot(submit.site, &mut old_room);
+        // reborrowed, to live as long as what the old value was copied to
+        let new = stored(&*submit, old.value);
+        let size = self
+            .reply(submit, &new, out)
+            .map_err(|_| Fault::BufferTooShort)?;
+        let mut room = [0; MAX_SLOT];
+        let bytes = value_bytes(&new, &mut room);
+        keep(&mut self.store, Slot::Value, submit.site, bytes).unwrap();
+        self.list.push(list_entry(submit));
         Ok(size)
     }
 }
 
-// The entry of a submit whose parts lie in `bytes`.
-fn list_entry(submit: &Submit, bytes: &[u8], g: usize) -> ListEntry
-    requires short { g ≤ 64 }
-    requires signed { length (bytes_at bytes.now submit.now.submit_signature g) ≡ g }
-    ensures { entered g result ≡ entry_of (submission g bytes.now submit.now) }
+impl<T> Host<T> {
+    // The submit that the bytes are.
+    fn read_submit<'a>(&self, bytes: &'a [u8]) -> Result<Submit<'a>, Refusal>
+        ensures { ReadsFormed (submit_field self.now.size self.now.signature) submitted (FormedSubmit self.now.size self.now.signature) bytes.now result }
+    {
+        Submit::read(self.size, self.signature, bytes)
+    }
+}
+
+// The entry of a submit.
+fn list_entry(submit: &Submit) -> ListEntry
+    requires { length submit.now.submit_signature.now ≤ 64 }
+    ensures { entered (length submit.now.submit_signature.now) result ≡ entry_of (submitted submit.now) }
 {
     let mut signature = [0; MAX_SIGNATURE];
-    signature[0..g].copy_from_slice(bytes_at(bytes, submit.submit_signature, g));
+    signature[..submit.submit_signature.len()].copy_from_slice(submit.submit_signature);
     ListEntry {
         site: submit.site,
         code: submit.code,
@@ -114,22 +90,17 @@ fn list_entry(submit: &Submit, bytes: &[u8], g: usize) -> ListEntry
     }
 }
 
-// What the value slot says after a submit whose parts lie in `bytes`, where it said `old` of the value: a read keeps it.
-fn stored<'a>(
-    submit: &Submit,
-    bytes: &'a [u8],
-    old: Option<&'a [u8]>,
-    g: usize,
-) -> ValueSlotParts<'a>
-    ensures { value_stored result ≡ stored_with (submission g bytes.now submit.now) (option_map (λ x. x.now) old.entry) }
+// What the value slot says after a submit, where it said `old` of the value: a read keeps it.
+fn stored<'a>(submit: &'a Submit<'a>, old: Option<&'a [u8]>) -> ValueSlot<'a>
+    ensures { value_stored result ≡ stored_with (submitted submit.now) (option_map (λ x. x.now) old.entry) }
 {
     let value = match submit.code {
         Code::Read => old,
-        Code::Write => part(bytes, submit.value),
+        Code::Write => submit.value,
     };
-    ValueSlotParts {
+    ValueSlot {
         timestamp: submit.timestamp,
         value,
-        data_signature: bytes_at(bytes, submit.data_signature, g),
+        data_signature: submit.data_signature,
     }
 }

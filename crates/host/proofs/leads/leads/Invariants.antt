@@ -1,6 +1,8 @@
+use Rattle.std.proofs.Common.{◌≡◌, ℕ, ◌+◌}
 use Rattle.version.specs.Version.{slots}
 use Rattle.host.proofs.Leading.{Told}
 use Rattle.host.proofs.leads.leads.Given as goal
 
-abbrev pub invariant-loop-place : goal.invariant-loop-place
-invariant-loop-place l = Told (slots l.version) (slots l.other) l.place l.above
+-- the sites before this one have been looked at
+abbrev pub invariant-loop-site : goal.invariant-loop-site
+invariant-loop-site l = (k : ℕ) × (l.site ≡ k + 1) × Told (slots l.version) (slots l.other) k l.above

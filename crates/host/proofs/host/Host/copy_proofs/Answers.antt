@@ -1,12 +1,6 @@
-use Rattle.std.proofs.Common.{arith}
 use Rattle.host.specs.Says.{version_of}
 use Rattle.host.proofs.Proving.{room_for, proofs_more, proofs_all}
 use Rattle.host.proofs.host.Host.copy_proofs.Goals as goal
-
-pub slice_bounds-copy_proof-end : goal.slice_bounds-copy_proof-end
-slice_bounds-copy_proof-end t c =
-    let h = c.args.self.now in
-    omega (arith, room_for h.signature c.loop-place.place h.size h.signed.1 c.loop-place-test.true h.sized.1)
 
 pub loop-place-preserved : goal.loop-place-preserved
 loop-place-preserved t c =

@@ -1,27 +1,17 @@
-use Rattle.message.specs.declared.code.Code.TheVariants.{Read, Write}
-use Rattle.message.specs.Slots.{value_stored}
-use Rattle.store.specs.declared.slot.Slot.TheVariants.{Version}
-use Rattle.host.specs.Says.{said}
-use Rattle.host.specs.State.{host_state}
-use Rattle.host.proofs.Replying.{version_said, reply_is}
+use Rattle.std.proofs.Common.{ap, arith}
+use Rattle.message.specs.Slots.{StoredVersion, value_stored}
+use Rattle.version.specs.Version.{slots}
+use Rattle.host.proofs.Replying.{replies}
 use Rattle.host.proofs.host.Host.reply.Goals as goal
 
-pub returns-in-Read : goal.returns-in-Read
-returns-in-Read t c =
+pub returns : goal.returns
+returns t c =
     let h = c.args.self.now in
+    let n = h.sized.1 in
+    let k = h.few in
     let a = c.args.submit.now in
-    let m = t.T.Store.means h.store in
-    let w = said c.version_in-leader.result in
-    reply_is h.size h.signature (host_state h) m a.site a.register (value_stored c.args.new.now) c.args.out.now c.reply_read.new.out c.reply_read.result Read a.code w c.copy_proofs.new.out
-    c.in-Read.is (version_said h.size h.signature c.load-end.result c.load-end.new.room (m.slot Version h.committer) w c.version_in-leader.ensures.says c.load-end.ensures.1)
-    c.copy_proofs.ensures c.reply_read.ensures
-
-pub returns-in-Write : goal.returns-in-Write
-returns-in-Write t c =
-    let h = c.args.self.now in
-    let a = c.args.submit.now in
-    let m = t.T.Store.means h.store in
-    let w = said c.version_in-leader.result in
-    reply_is h.size h.signature (host_state h) m a.site a.register (value_stored c.args.new.now) c.args.out.now c.reply_write.new.out c.reply_write.result Write a.code w c.copy_proofs.new.out
-    c.in-Write.is (version_said h.size h.signature c.load-end.result c.load-end.new.room (m.slot Version h.committer) w c.version_in-leader.ensures.says c.load-end.ensures.1)
-    c.copy_proofs.ensures c.reply_write.ensures
+    let leader = c.version_slot-leader in
+    replies h.size h.signature h.committer h.list.items (t.T.Store.means h.store) a.code a.site a.register (value_stored c.args.new.now) (slots leader.result.version) leader.result.commit_signature.now
+    c.copy_proofs.new.out c.as_slice.result.now c.found-found.result c.args.out.now c.write.new.out c.write.result h.signed.1 c.as_slice.ensures.value (omega arith) leader.ensures.formed.sized
+    (ap (λ (w : StoredVersion). w.version) leader.ensures.says) (ap (λ (w : StoredVersion). w.commit_signature) leader.ensures.says)
+    c.copy_proofs.ensures c.found-found.ensures.found c.found-found.ensures.short c.write.ensures
