@@ -25,7 +25,7 @@ pub fn start<S: Scheme, D: Digest, T: Store>(
     digest: D,
     store: T,
 ) -> Result<Group<S, D, T>, Unstarted<S, D, T>>
-    ensures starts { Starts S.Scheme.len S.Scheme.means D.Digest.means T.Store.means size scheme digest store result }
+    ensures starts { Starts S.Scheme.G S.Scheme.means D.Digest.means T.Store.means size scheme digest store result }
     ensures law { Law }
     ensures worked { Worked }
 {
@@ -40,9 +40,9 @@ fn make<S: Scheme, D: Digest, T: Store>(
     digest: D,
     store: T,
 ) -> Result<Group<S, D, T>, Unstarted<S, D, T>>
-    ensures { Starts S.Scheme.len S.Scheme.means D.Digest.means T.Store.means size scheme digest store result }
+    ensures { Starts S.Scheme.G S.Scheme.means D.Digest.means T.Store.means size scheme digest store result }
 {
-    let host = match Host::new(size, S::size(), store) {
+    let host = match Host::new(size, S::G, store) {
         Ok(host) => host,
         Err(unstarted) => {
             let host::Unstarted { store, refusal: _ } = unstarted;
@@ -76,11 +76,8 @@ fn all_sites(heap: Global, size: u8) -> Result<Vec<Site>, AllocError>
     ensures { IfOk result (λ v. map state v.items ≡ new_sites size size) }
 {
     let mut sites = Vec::with_capacity(heap, size as usize)?;
-    for before in 0..size {
-        let Ok(site) = Site::new(size, before + 1) else {
-            unreachable()
-        };
-        sites.push_reserved(site);
+    for number in 1..=size {
+        sites.push_reserved(Site::new(size, number).unwrap());
     }
     Ok(sites)
 }

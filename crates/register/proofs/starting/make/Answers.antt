@@ -18,5 +18,5 @@ returns-in-Ok-all_sites g c =
       host.4,
       sites,
       host.2,
-      host.3 ∙ c.size.ensures,
+      host.3 ∙ c.G.ensures,
     )
