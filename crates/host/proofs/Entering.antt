@@ -1,8 +1,7 @@
--- A submit that is entered, or for whose reply there is no room.
-use Rattle.std.proofs.Common.{◌≡◌, ℕ, ◌+◌, ◌-◌, ◌<◌, ◌≤◌, List, [], ◌∷◌, ◌++◌, length, drop, Ok, Err, Result, ap, ◌∙◌, arith}
+-- A submit that is entered.
+use Rattle.std.proofs.Common.{◌≡◌, ℕ, ◌+◌, ◌-◌, ◌≤◌, List, [], ◌∷◌, ◌++◌, length, drop, Ok, Result, ap, ◌∙◌, arith}
 use Rattle.std.proofs.lemmas.List.{length-append, length-drop}
 use Rattle.message.specs.declared.refusal.Refusal.{Refusal}
-use Rattle.message.specs.declared.refusal.Refusal.TheVariants.{OutOfRange, ValueTooLong, BadField, BufferTooShort}
 use Rattle.message.specs.Reply.{reply}
 use Rattle.message.specs.Slots.{StoredValue, value_slot}
 use Rattle.message.specs.Submit.{Submission}
@@ -38,10 +37,3 @@ module _ (n g : ℕ) (h : HostState) (m : StoreMeaning) (a : Submission) (v : St
         out = x.2 ∙ rw s;
         after = after;
       }
-
-  pub no_room : (r : Refusal) → Writes (reply n g) (reply_to n g h m a.code a.site a.register v) ⊥ was is (Err r)
-      → (length was < length (reply_bytes n g h m a)) × (is ≡ was)
-  no_room OutOfRange w = absurd w
-  no_room ValueTooLong w = absurd w.0
-  no_room (BadField offset) w = absurd w
-  no_room BufferTooShort w = let x = rw later at w.1 in (x, w.2)

@@ -1,6 +1,6 @@
 -- Parts one behind the other.
 use Rattle.std.proofs.Common.{◌≡◌, ℕ, ◌+◌, ◌<◌, ◌≤◌, List, [], ◌∷◌, ◌++◌, length, get_or, take, drop, Some, None, Option, unwrap_or, sym, refl, ap, ◌∙◌, arith, Bor}
-use Rattle.std.proofs.lemmas.List.{append_assoc, append-nil, length-append, take-append-drop, take_more, take_all, take_at}
+use Rattle.std.proofs.lemmas.List.{append_assoc, append-nil, length-append, take-append-drop, take_more, take_at}
 use Rattle.std.proofs.lemmas.List.FromFn.{length-map-range_with_len}
 use Rattle.octets.specs.Puts.{PutsOrNot}
 use Rattle.version.specs.declared.version.Version.{Version}
@@ -30,9 +30,6 @@ pub joined_front : (ps : List (Bor (List ℕ))) (i : ℕ) → length (joined (ta
 joined_front ps i =
     let e : joined (take i ps) ++ joined (drop i ps) ≡ joined ps = sym (joined-append (take i ps) (drop i ps)) ∙ ap joined (take-append-drop i ps) in
     omega (arith, simp length-append at (ap length e))
-
-pub joined_all : (ps : List (Bor (List ℕ))) (i : ℕ) → length ps ≤ i → joined (take i ps) ≡ joined ps
-joined_all ps i h = ap joined (take_all i ps h)
 
 -- a version is of at most eight sites
 sites : (v : Version) → length (slots v) ≤ 8

@@ -61,9 +61,6 @@ module _ (g : ℕ) (es : List ListEntry) (i : ℕ) (d : ListEntry) (h : i < leng
       let e = q.ends in
       (omega arith, rw list_step (p ⨾ q))
 
-pub list_all : (g : ℕ) (es : List ListEntry) (i : ℕ) → length es ≤ i → list_put g es i ≡ put_all (entry 0 g) (map (entered g) es)
-list_all g es i h = ap (λ (l : List ListEntry). put_all (entry 0 g) (map (entered g) l)) (take_all i es h)
-
 -- the entries at the front of a buffer that holds eight of them
 pub first_eight : (es : List ListEntry) (k : ℕ) → k ≡ min (length es) 8 → (take k es ≡ take 8 es) × (length (take 8 es) ≤ 8)
 first_eight es k e = (

@@ -12,13 +12,6 @@ module _ {A : Type 0} (f : Field A) (n : ℕ) (bs : List ℕ) where
   abbrev pub Left : ℕ → List A → List ℕ → Type 0
   Left i xs rest = get_all f n bs ≡ after xs (get_all f (n - i) rest)
 
-  pub left_none : Left 0 [] bs
-  left_none = let e : n - 0 ≡ n = omega arith in rw e (same (get_all f n bs))
-    where
-      same : (m : Got (List A)) → m ≡ after [] m
-      same (good ys rest) = refl
-      same (bad left) = refl
-
   pub left_more : (i : ℕ) (xs : List A) (rest : List ℕ) (a : A) (rest' : List ℕ) → i < n → Left i xs rest → f.get rest ≡ good a rest' → Left (i + 1) (xs ++ a ∷ []) rest'
   left_more i xs rest a rest' h l g =
       let e : n - i ≡ suc (n - (i + 1)) = omega arith in

@@ -1,18 +1,8 @@
 -- Bytes put into a buffer, and more put behind them.
-use Rattle.std.proofs.Common.{◌≡◌, ℕ, ◌+◌, ◌-◌, ◌*◌, ◌≤◌, List, [], ◌∷◌, ◌++◌, length, take, drop, sym, ap, ◌∙◌, mul-suc, arith}
-use borrow.Rule.Slice.PartMut.{put_mid}
-use Rattle.std.proofs.lemmas.List.{append_assoc, append-nil, take-append-drop, length-append, length-take-le, length-drop, take_at, drop_at, drop-drop}
+use Rattle.std.proofs.Common.{◌≡◌, ℕ, ◌*◌, List, [], ◌∷◌, ◌++◌, length, take, drop, sym, ap, ◌∙◌, mul-suc, arith}
+use Rattle.std.proofs.lemmas.List.{append_assoc, append-nil, length-append, length-take-le, length-drop, take_at, drop_at, drop-drop}
 use Rattle.octets.specs.Field.{Field, put_all, GoodAll}
 use Rattle.octets.specs.Puts.{Puts}
-
--- a part that was copied to a range of the buffer
-pub put_middle : (was bs is : List ℕ) (start end : ℕ) → end ≡ start + length bs → end ≤ length was → is ≡ bs → Puts bs start was (put_mid start (end - start) was is) end
-put_middle was bs is start end e h same =
-    let k : end - start ≡ length bs = omega arith in
-    record { ends = e; room = h; after = rw (same, k, drop-drop (length bs) start was, e) }
-
-pub puts_none : (start : ℕ) (was : List ℕ) → start ≤ length was → Puts [] start was was start
-puts_none start was h = record { ends = omega arith; room = h; after = sym (take-append-drop start was) }
 
 -- bytes, and then more
 pub ◌⨾◌ : {bs cs : List ℕ} {start : ℕ} {was mid is : List ℕ} {m n : ℕ} → Puts bs start was mid m → Puts cs m mid is n → Puts (bs ++ cs) start was is n

@@ -8,10 +8,9 @@ use Rattle.message.specs.declared.reply.Entry.{Entry}
 use Rattle.message.specs.declared.reply.Found.{Found}
 use Rattle.message.specs.declared.reply.Reply.{Reply}
 use Rattle.message.specs.Places.{ValueBefore}
-use Rattle.message.specs.Reply.{asked, entry, found, held, listed, reply, response, FoundBefore}
+use Rattle.message.specs.Reply.{entry, held, listed, reply, response, FoundBefore}
 use Rattle.rules.specs.Finish.{Placed, PlacedValue}
 use Rattle.rules.specs.Group.{Member}
-use Rattle.version.specs.Version.{slots}
 use Rattle.site.specs.Finishing.{place_before, place_of}
 use Rattle.site.specs.Checking.{WellRead, size_of}
 
@@ -30,14 +29,6 @@ module _ (g : ℕ) (m : Reply) (h : WellRead g m) where
   entry_in items e k d l =
       let good = good_at (entry (size_of m) g) listed items k d l (rw e h.0.1.1.1.0.0.1.1) in
       ranged (size_of m) (get_or items k d).site good.0.0.1
-
-  -- what was found is of the group
-  pub found_sized : (f : Found) → m.found ≡ Some f → length (slots f.version) ≡ size_of m
-  found_sized f e = go m.found h.0.1.1.1.1.1 e
-    where
-      go : (o : Option Found) → (found (size_of m) g (asked o)).Good (option_map held o) → o ≡ Some f → length (slots f.version) ≡ size_of m
-      go None k e = let z : ◌≡◌ {A = ℕ} 0 1 = cc in absurd (omega arith)
-      go (Some x) k e = let q : x ≡ f = cc in subst (λ (f : Found). length (slots f.version) ≡ size_of m) q k.0.0.0
 
 -- what the reader of replies promises
 pub well_read : (n g : ℕ) (bs : List ℕ) (m : Reply) → Bytes bs → Undoes (reply n g) → read (reply n g) bs ≡ Ok (response g n m) → (size_of m ≡ n) × WellRead g m

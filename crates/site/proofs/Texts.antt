@@ -1,9 +1,8 @@
 -- How long the texts are that sites sign.
-use Rattle.std.proofs.Common.{◌≡◌, ℕ, ◌≤◌, List, length, Some, None, Option, arith}
+use Rattle.std.proofs.Common.{◌≤◌, length, arith}
 use Rattle.std.proofs.lemmas.List.FromFn.{length-map-range_with_len}
-use Rattle.message.specs.Strings.{commit_string, data_string}
+use Rattle.message.specs.Strings.{commit_string}
 use Rattle.version.specs.declared.version.Version.{Version}
-use Rattle.version.specs.Shape.{digest_bytes}
 use Rattle.version.specs.Version.{slot_of, slots}
 use Rattle.version.proofs.LayoutLaws.{version-length}
 
@@ -20,8 +19,3 @@ commit_size v =
     let n = version-length v in
     let f = few v in
     omega arith
-
--- and a digest 32 bytes
-pub data_size : (t : ℕ) (d : Option (List ℕ)) → length (digest_bytes d) ≡ 32 → length (data_string t d) ≤ 292
-data_size t None w = omega arith
-data_size t (Some d) w = omega arith

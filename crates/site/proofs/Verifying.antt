@@ -1,23 +1,20 @@
 -- From the checks one by one to what a site makes of a whole reply.
-use Rattle.std.proofs.Common.{◌≡◌, ℕ, ◌<◌, List, [], ◌∷◌, length, Some, None, Ok, Err, Option, Result, sym, refl, ap, ◌∙◌, subst, ⊎_elim, arith}
-use Rattle.std.specs.Option.{option_map}
-use Rattle.message.specs.declared.reply.Found.{Found}
+use Rattle.std.proofs.Common.{◌≡◌, ℕ, ◌<◌, List, [], ◌∷◌, length, Ok, Err, Option, Result, refl, ap, ◌∙◌, subst, ⊎_elim, arith}
 use Rattle.message.specs.declared.reply.Reply.{Reply}
-use Rattle.message.specs.Reply.{Listed, Held, Response, held, response}
+use Rattle.message.specs.Reply.{Listed, Response, response}
 use Rattle.rules.specs.declared.phase.Phase.{Phase}
-use Rattle.rules.specs.declared.phase.Phase.TheVariants.{Idle}
 use Rattle.rules.specs.declared.stop.Stop.{Stop}
 use Rattle.rules.specs.declared.stop.Stop.TheVariants.{CommitSignature, Forked, ProofSignature, OwnEntry, SubmitSignature, OwnerSignature, DataSignature, OwnerVersion, OwnerTimestamp}
-use Rattle.rules.specs.Checks.{EntryStops, EntriesPass, EntriesStop, FoundPasses, FoundStops, Follows, CommitSigned, ListPasses, ListStops, AnswerPasses, AnswerStops, Fails}
+use Rattle.rules.specs.Checks.{EntryStops, EntriesPass, EntriesStop, Follows, CommitSigned, ListStops, Fails}
 use Rattle.rules.specs.Group.{Setup, SiteState, Member, max_timestamp, slot}
-use Rattle.rules.specs.Running.{Running as Walk, rise, rise_all, result}
+use Rattle.rules.specs.Running.{Running as Walk, rise, rise_all}
 use Rattle.rules.proofs.Slots.{slot_set_other}
 use Rattle.signature.specs.Meaning.{SchemeMeaning}
 use Rattle.version.specs.Order.{Slot, AtOrBelow}
 use Rattle.version.specs.Version.{slots}
 use Rattle.site.specs.declared.running.Running.{Running}
 use Rattle.site.specs.Checking.{EntriesAnswer, Verifies, ZeroOrSigned, answered, site_with, size_of}
-use Rattle.site.specs.Running.{running, committed}
+use Rattle.site.specs.Running.{committed}
 use Rattle.site.specs.State.{setup}
 use Rattle.site.proofs.Entering.{risen_length}
 
@@ -47,21 +44,6 @@ module _ (p : Setup) (m : SchemeMeaning) (s : SiteState) (r : ℕ) (a : Response
   list_fails DataSignature h = absurd (never p.digest m s.number a DataSignature (λ w e z. z) _ a.entries h)
   list_fails OwnerVersion h = absurd (never p.digest m s.number a OwnerVersion (λ w e z. z) _ a.entries h)
   list_fails OwnerTimestamp h = absurd (never p.digest m s.number a OwnerTimestamp (λ w e z. z) _ a.entries h)
-
-  no_answer : {A : Type 0} (o : Option Held) (stop : Stop) → ((h : Held) → AnswerStops p m s r a (Some h) stop → ⊥) → AnswerStops p m s r a o stop → A
-  no_answer None stop n h = absurd h
-  no_answer (Some x) stop n h = absurd (n x h)
-
-  pub answer_fails : (stop : Stop) → ListPasses p m s r a → AnswerStops p m s r a a.found stop → Fails p m s r a stop
-  answer_fails CommitSignature l h = no_answer a.found CommitSignature (λ x z. z) h
-  answer_fails Forked l h = no_answer a.found Forked (λ x z. z) h
-  answer_fails ProofSignature l h = no_answer a.found ProofSignature (λ x z. z) h
-  answer_fails OwnEntry l h = no_answer a.found OwnEntry (λ x z. z) h
-  answer_fails SubmitSignature l h = no_answer a.found SubmitSignature (λ x z. z) h
-  answer_fails OwnerSignature l h = (c, f, l, h)
-  answer_fails DataSignature l h = (c, f, l, h)
-  answer_fails OwnerVersion l h = (c, f, l, h)
-  answer_fails OwnerTimestamp l h = (c, f, l, h)
 
 -- the whole of a reply, once its committed version is signed and follows the site's
 module _ (g : ℕ) (H : List ℕ → List ℕ) (M : SchemeMeaning) (i : ℕ) (v : List Slot) (r : ℕ) (m : Reply)
@@ -95,27 +77,3 @@ module _ (g : ℕ) (H : List ℕ → List ℕ) (M : SchemeMeaning) (i : ℕ) (v 
         let o = ap (λ (w : Walk). (slot w.version i).timestamp) list.1 ∙ ap (λ (s : Slot). s.timestamp) (all_own H M i a (committed m) a.entries list.0) in
         let f = follows.1 in
         omega arith
-
-    module _ (w' : Running) (own : running w' ≡ rise H (running w) i) where
-      made : running w' ≡ result H i a
-      made = own ∙ ap (λ (w : Walk). rise H w i) list.1
-
-      pub found_stops : (f : Found) → m.found ≡ Some f → (stop : Stop) → FoundStops p M a (slots w'.version) r (held f) stop → Verifies (setup n g H) M i v r (response g n m) (Err stop)
-      found_stops f e stop h =
-          let version = ap (λ (w : Walk). w.version) made in
-          let P : Option Found → Type 0 = λ o. AnswerStops p M (site_with i v None Idle) r a (option_map held o) stop in
-          resized (Err stop) (λ last phase. answer_fails p M (site_with i v last phase) r a signed (follow last phase) stop list.0 (subst P (sym e) (rw version at h)))
-
-      passes : AnswerPasses p M (site_with i v None Idle) r a a.found → Verifies (setup n g H) M i v r (response g n m) (Ok w')
-      passes h = resized (Ok w') (λ last phase. record { committed = signed; follows = follow last phase; list = list.0; answer = h }, made)
-
-      pub found_passes : (f : Found) → m.found ≡ Some f → FoundPasses p M a (slots w'.version) r (held f) → Verifies (setup n g H) M i v r (response g n m) (Ok w')
-      found_passes f e h =
-          let version = ap (λ (w : Walk). w.version) made in
-          let P : Option Found → Type 0 = λ o. AnswerPasses p M (site_with i v None Idle) r a (option_map held o) in
-          passes (subst P (sym e) (rw version at h))
-
-      pub none_passes : m.found ≡ None → Verifies (setup n g H) M i v r (response g n m) (Ok w')
-      none_passes e =
-          let P : Option Found → Type 0 = λ o. AnswerPasses p M (site_with i v None Idle) r a (option_map held o) in
-          passes (subst P (sym e) tt)

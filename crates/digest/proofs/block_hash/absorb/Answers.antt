@@ -1,12 +1,7 @@
-use Rattle.std.proofs.Common.{◌≡◌, ◌/◌, length, refl, ap, ◌∙◌, arith, mul-one}
+use Rattle.std.proofs.Common.{◌/◌, length, refl, ap, ◌∙◌, arith}
 use Rattle.digest.specs.Blocks.{absorbed}
 use Rattle.digest.proofs.Blocks.{absorbed_chunk}
 use Rattle.digest.proofs.block_hash.absorb.Goals as goal
-
-pub as_chunks-requires : goal.as_chunks-requires
-as_chunks-requires g c =
-    let law = g.met.B.BlockHash in
-    (rw mul-one law.fits, law.nonempty)
 
 pub loop-block-init : goal.loop-block-init
 unfolding absorbed
@@ -19,12 +14,3 @@ loop-block-preserved g c =
     absorbed_chunk step g.row.N c.args.state.now _ _ bytes c.block-item.result c.as_chunks.result.0.now (length bytes / g.row.N) c.loop-block.block-index
     c.as_chunks.ensures.front (omega (arith, c.as_chunks.ensures.front_len)) c.loop-block.invariant
     (c.compress.ensures ∙ ap (step c.loop-block.state) c.block-item.is)
-
-pub returns : goal.returns
-returns g c =
-    let n : c.loop-block.block-index ≡ length c.args.bytes.now / g.row.N = omega (arith, c.as_chunks.ensures.front_len) in
-    record {
-      state = c.loop-block.invariant ∙ ap (absorbed g.B.BlockHash.step g.row.N c.args.state.now c.args.bytes.now) n;
-      rest = c.as_chunks.ensures.back;
-      len = c.as_chunks.ensures.back_len;
-    }

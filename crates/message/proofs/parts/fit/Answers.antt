@@ -1,5 +1,5 @@
-use Rattle.std.proofs.Common.{◌≡◌, ℕ, ◌+◌, length, refl, ap, arith}
-use Rattle.message.proofs.Joining.{joined_length, joined_front, joined_all}
+use Rattle.std.proofs.Common.{◌≡◌, ℕ, ◌+◌, arith}
+use Rattle.message.proofs.Joining.{joined_length, joined_front}
 use Rattle.message.proofs.parts.fit.Goals as goal
 
 pub returns-then-left-part : goal.returns-then-left-part
@@ -16,9 +16,3 @@ loop-part-preserved c =
     let i = c.loop-part.part-index in
     let m = joined_length ps i (omega arith) in
     omega arith
-
-pub returns : goal.returns
-returns c =
-    let ps = c.args.parts.now in
-    let a = ap length (joined_all ps c.loop-part.part-index (omega arith)) in
-    ((λ e. omega arith), (λ h. refl))

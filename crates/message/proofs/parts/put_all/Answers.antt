@@ -1,6 +1,6 @@
 use Rattle.std.proofs.Common.{◌+◌, arith}
 use Rattle.octets.proofs.Places.{◌⨾◌, puts_length}
-use Rattle.message.proofs.Joining.{joined_more, joined_length, joined_front, joined_all}
+use Rattle.message.proofs.Joining.{joined_more, joined_length, joined_front}
 use Rattle.message.proofs.parts.put_all.Goals as goal
 
 pub returns-in_err-at : goal.returns-in_err-at
@@ -19,8 +19,3 @@ loop-part-preserved c =
     let ps = c.args.parts.now in
     let i = c.loop-part.part-index in
     rw (joined_more ps i (omega arith)) (◌⨾◌ {is = c.put.new.out} c.loop-part.invariant c.in_ok-at.ensures)
-
-pub returns : goal.returns
-returns c =
-    let ps = c.args.parts.now in
-    rw (joined_all ps c.loop-part.part-index (omega arith)) at c.loop-part.invariant

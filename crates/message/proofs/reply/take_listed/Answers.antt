@@ -1,13 +1,9 @@
-use Rattle.std.proofs.Common.{◌≡◌, map, take, refl, ap, ◌∙◌, arith}
+use Rattle.std.proofs.Common.{map, take, ap, ◌∙◌, arith}
 use Rattle.std.proofs.lemmas.List.{length-set, map_push, take_more_set}
 use Rattle.std.proofs.lemmas.Result.{err_from_is_err_and}
-use Rattle.octets.specs.Field.{good}
-use Rattle.octets.proofs.Loops.{left_none, left_more, left_bad, left_all}
+use Rattle.octets.proofs.Loops.{left_more, left_bad}
 use Rattle.message.specs.Reply.{entry, listed}
 use Rattle.message.proofs.reply.take_listed.Goals as goal
-
-pub loop-i-init : goal.loop-i-init
-loop-i-init c = (refl, left_none (entry c.args.n c.args.g) c.args.count c.args.bytes.now)
 
 pub returns-in_err-entry : goal.returns-in_err-entry
 returns-in_err-entry c =
@@ -24,9 +20,3 @@ loop-i-preserved c =
       length-set xs i e ∙ l,
       rw more (left_more (entry c.args.n c.args.g) c.args.count c.args.bytes.now i _ c.loop-i.rest.now (listed e) _ c.loop-i-test.true c.loop-i.invariant.1 c.in_ok-entry.ensures),
     )
-
-pub returns : goal.returns
-returns c =
-    let n : c.loop-i.i ≡ c.args.count = omega arith in
-    left_all (entry c.args.n c.args.g) c.args.count c.args.bytes.now c.loop-i.i _ c.loop-i.rest.now (omega arith) c.loop-i.invariant.1
-    ∙ ap (λ k. good (map listed (take k c.loop-i.items)) c.loop-i.rest.now) n

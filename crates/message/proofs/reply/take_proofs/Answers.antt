@@ -1,30 +1,15 @@
-use Rattle.std.proofs.Common.{◌≡◌, ◌-◌, ◌*◌, length, ap, ◌∙◌, arith, mul-zero}
+use Rattle.std.proofs.Common.{◌≡◌, ◌-◌, ◌*◌, length, ap, ◌∙◌, arith}
 use Rattle.std.proofs.lemmas.List.{length-drop}
-use Rattle.std.proofs.lemmas.Result.{err_from_is_err_and}
 use Rattle.octets.specs.Field.{span}
-use Rattle.octets.proofs.Loops.{left_none, left_bad, left_all}
+use Rattle.octets.proofs.Loops.{left_all}
 use Rattle.message.specs.Reply.{signatures}
 use Rattle.message.proofs.Placing.{signatures_more, signatures_front}
 use Rattle.message.proofs.reply.take_proofs.Goals as goal
-
-pub loop-init : goal.loop-init
-loop-init c = record { within = rw (mul-zero c.args.g) (omega arith); rest = rw (mul-zero c.args.g); left = left_none (span c.args.g) c.args.n c.args.bytes.now }
-
-pub returns-in_err-behind : goal.returns-in_err-behind
-returns-in_err-behind c =
-    let p = err_from_is_err_and c.from_residual.result c.from_residual.ensures.1 in
-    rw (p.1, p.2) (left_bad (span c.args.g) c.args.n c.args.bytes.now c.loop.counter _ c.loop.rest.now _ c.loop-test.true c.loop.invariant.left c.in_err-behind.ensures)
 
 pub loop-preserved : goal.loop-preserved
 loop-preserved c =
     let m = signatures_more c.args.g c.args.n c.loop.counter c.args.bytes.now c.loop.rest.now _ _ c.loop-test.true c.loop.invariant.within c.loop.invariant.rest c.loop.invariant.left c.in_ok-behind.ensures in
     record { within = m.0; rest = m.1; left = m.2 }
-
-pub overflow_sub-bytes : goal.overflow_sub-bytes
-overflow_sub-bytes c =
-    let l = ap length c.loop.invariant.rest in
-    let d = length-drop (c.args.g * c.loop.counter) c.args.bytes.now in
-    omega arith
 
 pub returns : goal.returns
 returns c =

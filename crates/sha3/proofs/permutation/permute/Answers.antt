@@ -1,4 +1,4 @@
-use Rattle.std.proofs.Common.{◌≡◌, refl, ap, add-one, arith}
+use Rattle.std.proofs.Common.{refl, ap, add-one}
 use Rattle.sha3.specs.Keccak.{RC, rounds}
 use Rattle.digest.proofs.Tables.{tabled}
 use Rattle.sha3.proofs.permutation.permute.Goals as goal
@@ -14,6 +14,3 @@ loop-constant-preserved c =
     let one = c.round-next.ensures k (tabled RC 24 _ k 0 refl c.loop-constant-test.true) in
     let m = ap (λ n. rounds n c.args.a) (add-one k) in
     cc
-
-pub returns : goal.returns
-returns c = let n : c.loop-constant.constant-index ≡ 24 = omega arith in cc

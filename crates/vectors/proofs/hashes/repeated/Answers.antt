@@ -1,4 +1,4 @@
-use Rattle.std.proofs.Common.{◌≡◌, sym, subst, add-one, arith}
+use Rattle.std.proofs.Common.{sym, subst, add-one}
 use Rattle.vectors.specs.Hashes.{times}
 use Rattle.vectors.proofs.hashes.repeated.Goals as goal
 
@@ -10,8 +10,3 @@ pub loop-preserved : goal.loop-preserved
 unfolding times
 loop-preserved g c =
     subst (λ n. g.H.Streaming.took c.update.new.self (times n c.args.bytes.now)) (sym (add-one c.loop.counter)) (c.update.ensures _ c.loop.invariant)
-
-pub returns : goal.returns
-returns g c =
-    let n : c.loop.counter ≡ c.args.count = omega arith in
-    c.finalize.ensures _ (subst (λ k. g.H.Streaming.took c.loop.hasher (times k c.args.bytes.now)) n c.loop.invariant)

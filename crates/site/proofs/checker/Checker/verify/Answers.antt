@@ -1,7 +1,6 @@
 use Rattle.std.proofs.lemmas.Result.{err_from_is_err_and}
 use Rattle.version.specs.Version.{slots}
-use Rattle.site.proofs.Reading.{found_sized}
-use Rattle.site.proofs.Verifying.{list_stops, own_member, own_below, found_stops, found_passes, none_passes}
+use Rattle.site.proofs.Verifying.{list_stops, own_member, own_below}
 use Rattle.site.proofs.checker.Checker.verify.Goals as goal
 
 pub returns-in_err-running : goal.returns-in_err-running
@@ -21,29 +20,3 @@ rise-requires g c =
       member = own_member g.S.Scheme.G g.D.Digest.means (g.S.Scheme.means c.args.self.now.scheme.now) c.args.self.now.number (slots c.args.version.now) c.args.register c.args.reply.now signed follows _ c.requires.sizes w list c.requires.member;
       below = own_below g.S.Scheme.G g.D.Digest.means (g.S.Scheme.means c.args.self.now.scheme.now) c.args.self.now.number (slots c.args.version.now) c.args.register c.args.reply.now signed follows _ c.requires.sizes w list c.requires.below;
     }
-
-pub check_found-requires : goal.check_found-requires
-check_found-requires g c = found_sized g.S.Scheme.G c.args.reply.now c.requires.read c.in-Some.found c.in-Some.is
-
-pub returns-in_err-check_found : goal.returns-in_err-check_found
-returns-in_err-check_found g c =
-    let q = err_from_is_err_and c.from_residual-in_err-check_found.result c.from_residual-in_err-check_found.ensures.1 in
-    let signed = c.version_signed.ensures.0 c.if-not-version_signed.false in
-    let follows = c.follows.ensures.0 c.if-not-follows.false in
-    rw (q.1, q.2)
-    (found_stops g.S.Scheme.G g.D.Digest.means (g.S.Scheme.means c.args.self.now.scheme.now) c.args.self.now.number (slots c.args.version.now) c.args.register c.args.reply.now signed follows _ c.requires.sizes c.in_ok-running.running c.in_ok-running.ensures
-    c.rise.new.self c.rise.ensures c.in-Some.found c.in-Some.is _ c.in_err-check_found.ensures)
-
-pub returns-in_ok-check_found : goal.returns-in_ok-check_found
-returns-in_ok-check_found g c =
-    let signed = c.version_signed.ensures.0 c.if-not-version_signed.false in
-    let follows = c.follows.ensures.0 c.if-not-follows.false in
-    found_passes g.S.Scheme.G g.D.Digest.means (g.S.Scheme.means c.args.self.now.scheme.now) c.args.self.now.number (slots c.args.version.now) c.args.register c.args.reply.now signed follows _ c.requires.sizes c.in_ok-running.running c.in_ok-running.ensures
-    c.rise.new.self c.rise.ensures c.in-Some.found c.in-Some.is c.in_ok-check_found.ensures
-
-pub returns-in_default : goal.returns-in_default
-returns-in_default g c =
-    let signed = c.version_signed.ensures.0 c.if-not-version_signed.false in
-    let follows = c.follows.ensures.0 c.if-not-follows.false in
-    none_passes g.S.Scheme.G g.D.Digest.means (g.S.Scheme.means c.args.self.now.scheme.now) c.args.self.now.number (slots c.args.version.now) c.args.register c.args.reply.now signed follows _ c.requires.sizes c.in_ok-running.running c.in_ok-running.ensures
-    c.rise.new.self c.rise.ensures c.in_default.is

@@ -26,19 +26,14 @@ sign-at-requires g c =
     let p = rw c.unwrap-at.ensures at c.put.ensures in
     record { ranged = signer c.args.self.now; short = omega arith; some = omega (arith, c.requires.two); room = omega (arith, p.ends, c.requires.room) }
 
-pub sign-requires : goal.sign-requires
-sign-requires g c =
+pub sign-requires-clause-room : goal.sign-requires-clause-room
+sign-requires-clause-room g c =
     let h = ap length c.commit_start-head.ensures in
     let n = version-length c.args.self.now.version in
     let e = c.place-at.ensures.ends in
     let p = rw c.unwrap-at.ensures at c.put.ensures in
     let s = c.sign-at.ensures in
-    record {
-      ranged = signer c.args.self.now;
-      short = omega arith;
-      some = omega (arith, s.1.by_one, c.requires.two);
-      room = omega (arith, p.ends, s.1.fits.sized, s.2.ends, c.requires.room);
-    }
+    omega (arith, p.ends, s.1.fits.sized, s.2.ends, c.requires.room)
 
 pub returns : goal.returns
 returns g c =

@@ -1,16 +1,11 @@
 use Rattle.std.proofs.Common.{length, ap, arith}
-use Rattle.std.specs.Option.{option_map}
 use Rattle.site.specs.Submitting.{asked}
 use Rattle.site.proofs.Ranges.{signer}
-use Rattle.site.proofs.Texts.{data_size}
 use Rattle.site.proofs.Writing.{parts_length, submit_parts}
 use Rattle.site.proofs.state.Site.write_submit.Goals as goal
 
-pub sign-at-requires : goal.sign-at-requires
-sign-at-requires g c =
-    let h = ap length c.submit_start-head.ensures in
-    let e = c.place-at.ensures.ends in
-    record { ranged = signer c.args.self.now; short = omega arith; some = omega (arith, c.requires.two); room = omega (arith, c.requires.room) }
+pub sign-at-requires-clause-ranged : goal.sign-at-requires-clause-ranged
+sign-at-requires-clause-ranged g c = signer c.args.self.now
 
 pub place-at-requires-3 : goal.place-at-requires-3
 place-at-requires-3 g c =
@@ -22,21 +17,15 @@ place-at-requires-3 g c =
     let e = s.2.ends in
     omega (arith, c.requires.room)
 
-pub sign-requires : goal.sign-requires
-sign-requires g c =
+pub sign-requires-clause-room : goal.sign-requires-clause-room
+sign-requires-clause-room g c =
     let h = ap length c.submit_start-head.ensures in
     let v = rw (c.unwrap.ensures, c.value.ensures) at c.value_parts.ensures in
     let k = parts_length c.unwrap.result.0 c.unwrap.result.1.now (asked c.args.request) v.1 in
     let s = c.sign-at.ensures in
     let n = s.1.fits.sized in
     let e = s.2.ends in
-    let w = data_size c.args.timestamp (option_map (λ x. x.now) c.as_ref.result) (rw c.as_ref.ensures.value c.args.self.now.wide) in
-    record {
-      ranged = signer c.args.self.now;
-      short = omega arith;
-      some = omega (arith, s.1.by_one, c.requires.two);
-      room = omega (arith, c.requires.room);
-    }
+    omega (arith, c.requires.room)
 
 pub returns : goal.returns
 returns g c =

@@ -1,15 +1,12 @@
 use Rattle.std.proofs.Common.{[], ◌∷◌, map, take, refl, arith}
 use Rattle.std.proofs.lemmas.List.{map-append, take_more_set}
 use Rattle.std.proofs.lemmas.Result.{err_from_is_err_and}
-use Rattle.octets.proofs.Loops.{left_none, left_more, left_bad, left_all}
+use Rattle.octets.proofs.Loops.{left_more, left_bad, left_all}
 use Rattle.version.specs.Layout.{slot_field}
 use Rattle.version.specs.Version.{slot_from}
 use Rattle.version.proofs.SlotLaws.{slots_length, room}
 use Rattle.version.proofs.LayoutLaws.{slots_got}
 use Rattle.version.proofs.version.Version.take.Goals as goal
-
-pub loop-slot-init : goal.loop-slot-init
-loop-slot-init c = left_none slot_field c.args.self.size c.args.bytes.now
 
 pub returns-in_err-slot : goal.returns-in_err-slot
 returns-in_err-slot c =

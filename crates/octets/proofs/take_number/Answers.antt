@@ -1,5 +1,0 @@
-use Rattle.std.proofs.Common.{arith}
-use Rattle.octets.proofs.take_number.Goals as goal
-
-pub split_first_chunk-requires : goal.split_first_chunk-requires
-split_first_chunk-requires g c = omega (arith, g.met.T.Number.few)
