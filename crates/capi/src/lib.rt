@@ -6,7 +6,7 @@ ghost use Rattle.sha256.specs.Sha256.{sha256};
 ghost use Rattle.sha256.specs.Stream.{After, Took};
 ghost use Rattle.sha3.specs.Sha3.{sha3_256};
 
-use digest::{Digest, LEN, Streaming};
+use digest::{Digest, LEN};
 use sha3::Sha3_256;
 use sha256::{Hasher, Midstate, Sha256};
 

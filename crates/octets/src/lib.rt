@@ -5,7 +5,7 @@
 
 #![tactic(auto)]
 
-ghost use Rattle.std.specs.Prelude.{◌≡◌, ℕ, ◌≤◌};
+ghost use Rattle.std.specs.Prelude.{◌≡◌, ℕ, ◌≤◌, Decides};
 ghost use Rattle.std.proofs.Common.{rules};
 ghost use Rattle.octets.specs.Field.{numeral, span};
 ghost use Rattle.octets.specs.Numbers.{big_endian, number};
@@ -127,4 +127,11 @@ pub fn put_number<const N: usize, T: Number<N>>(out: &mut [u8], start: usize, n:
     ensures { PutsOrNot (big_endian N (T.value n)) start out.old out.new result }
 {
     put(out, start, &n.to_bytes())
+}
+
+/// Whether two slices hold the same bytes.
+pub fn same(a: &[u8], b: &[u8]) -> bool
+    ensures { Decides result (a.now ≡ b.now) }
+{
+    a == b
 }

@@ -1,5 +1,7 @@
 //! The SHA-256 of a message that comes in pieces.
 
+ghost use Rattle.std.specs.Prelude.{◌≡◌, ℕ, List, [], ◌++◌};
+ghost use Rattle.sha256.specs.Sha256.{sha256};
 ghost use Rattle.sha256.specs.Stream.{Took};
 
 use crate::Sha256;
@@ -38,5 +40,29 @@ impl Streaming for Hasher {
     fn finalize(&self) -> [u8; LEN] {
         let used = (self.len % 64) as usize;
         conclude(self.state, &self.block[0..used], self.len)
+    }
+}
+
+// The calls of the trait, for callers that have not brought it in.
+impl Hasher {
+    /// A hasher that took nothing yet.
+    pub fn new() -> Hasher
+        ensures { Took result [] }
+    {
+        <Hasher as Streaming>::new()
+    }
+
+    /// Takes `piece` after what came before.
+    pub fn update(&mut self, piece: &[u8])
+        ensures { (bs : List ℕ) → Took self.old bs → Took self.new (bs ++ piece.now) }
+    {
+        <Hasher as Streaming>::update(self, piece);
+    }
+
+    /// The SHA-256 of all that came.
+    pub fn finalize(&self) -> [u8; LEN]
+        ensures { (bs : List ℕ) → Took self.now bs → result ≡ sha256 bs }
+    {
+        <Hasher as Streaming>::finalize(self)
     }
 }

@@ -1,5 +1,7 @@
 //! What a hasher does.
 
+ghost use Rattle.std.specs.Prelude.{◌≡◌, ℕ, List, [], ◌++◌};
+ghost use Rattle.sha3.specs.Sha3.{sha3_256};
 ghost use Rattle.sha3.specs.Stream.{Took};
 
 use super::Hasher;
@@ -27,5 +29,29 @@ impl Streaming for Hasher {
 
     fn finalize(&self) -> [u8; LEN] {
         conclude(self.state, &self.buffer[0..self.used])
+    }
+}
+
+// The calls of the trait, for callers that have not brought it in.
+impl Hasher {
+    /// A hasher that took nothing yet.
+    pub fn new() -> Hasher
+        ensures { Took result [] }
+    {
+        <Hasher as Streaming>::new()
+    }
+
+    /// Takes `piece` after what came before.
+    pub fn update(&mut self, piece: &[u8])
+        ensures { (bs : List ℕ) → Took self.old bs → Took self.new (bs ++ piece.now) }
+    {
+        <Hasher as Streaming>::update(self, piece);
+    }
+
+    /// The SHA3-256 of all that came.
+    pub fn finalize(&self) -> [u8; LEN]
+        ensures { (bs : List ℕ) → Took self.now bs → result ≡ sha3_256 bs }
+    {
+        <Hasher as Streaming>::finalize(self)
     }
 }
