@@ -32,25 +32,26 @@ impl fmt::Display for Failure {
 /// The answer to a line `SIZE HEX SIZE HEX`.
 pub fn answer_to(heap: Global, line: &str) -> Result<Result<Order, Failure>, AllocError> {
     let mut words = line.split(' ');
-    let (Some(left), Some(right), None) = (
-        saved(heap, &mut words)?,
-        saved(heap, &mut words)?,
-        words.next(),
-    ) else {
+    let (Some(left), Some(right), None) = (named(&mut words), named(&mut words), words.next())
+    else {
+        return Ok(Err(Failure::Unknown));
+    };
+    let (Some(left), Some(right)) = (saved(heap, left)?, saved(heap, right)?) else {
         return Ok(Err(Failure::Unknown));
     };
     Ok(check(&left, &right).map_err(Failure::Refused))
 }
 
-// The version that the next two words name.
-fn saved(heap: Global, words: &mut Split<'_, char>) -> Result<Option<Saved>, AllocError> {
-    let (Some(size), Some(text)) = (words.next(), words.next()) else {
-        return Ok(None);
-    };
-    let (Some(size), Some(bytes)) = (parse_size(size), decode(heap, text.as_bytes())?) else {
-        return Ok(None);
-    };
-    Ok(Some(Saved { size, bytes }))
+// The size and the text of the version that the next two words name.
+fn named<'a>(words: &mut Split<'a, char>) -> Option<(u8, &'a str)> {
+    let (size, text) = (words.next()?, words.next()?);
+    Some((parse_size(size)?, text))
+}
+
+// The version of this size and text.
+fn saved(heap: Global, (size, text): (u8, &str)) -> Result<Option<Saved>, AllocError> {
+    let bytes = decode(heap, text.as_bytes())?;
+    Ok(bytes.map(|bytes| Saved { size, bytes }))
 }
 
 // A group's size; a number too large for any group is as good as 0, which is none either.

@@ -1,11 +1,9 @@
 -- Digits one by one, and the text of bytes two digits at a time.
-use Rattle.std.proofs.Common.{◌≡◌, ℕ, zero, suc, ◌+◌, ◌*◌, ◌/◌, ◌%◌, ◌^◌, ◌-◌, ◌<◌, ◌≤◌, true, false, ltb, ◌⊎◌, List, [], ◌∷◌, ◌++◌, length, get_or, take, drop, Some, None, Option, sym, refl, ap, ◌∙◌, ⊎_elim, arith}
-use Rattle.std.proofs.lemmas.List.{append_assoc, take_more, take_all, get_or-take, get_or-drop, length-drop}
+use Rattle.std.proofs.Common.{◌≡◌, ℕ, zero, suc, ◌+◌, ◌*◌, ◌/◌, ◌%◌, ◌<◌, ◌≤◌, true, false, ltb, ◌⊎◌, List, [], ◌∷◌, ◌++◌, length, get_or, slice_set, take, drop, Some, None, Option, sym, refl, ap, ◌∙◌, ⊎_elim, arith}
+use Rattle.std.proofs.lemmas.List.{append_assoc, take_more, take_more_set, take_all, get_or-take, get_or-drop, length-drop, length-set}
 use Rattle.std.proofs.lemmas.Slice.Eq.{bytes_eq-Decides}
-use Rattle.std.proofs.lemmas.Fmt.{hex_byte}
-use Rattle.std.specs.Fmt.{padded_integral, format_spec, digits as spelled_in}
 use Rattle.std.specs.Simd.{first_chunks}
-use Rattle.std.specs.Str.{bytes_eq}
+use Rattle.std.specs.Str.{bytes_eq, IsAscii}
 use Rattle.std.proofs.lemmas.Bool.{cases_lt}
 use Rattle.octets.specs.Numbers.{Bytes}
 use Rattle.hex_text.specs.Hex.{digit, digits, text_of, Value, Spelled}
@@ -104,12 +102,33 @@ digits_all text (b ∷ bs) k l m e = e ∙ take_all (2 * k) text l
 pub text_more : (bs text text' : List ℕ) (k : ℕ) → k < length bs → text ≡ digits (take k bs) → text' ≡ text ++ digit (get_or bs k 0 / 16) ∷ digit (get_or bs k 0 % 16) ∷ [] → text' ≡ digits (take (k + 1) bs)
 text_more bs text text' k l e p = p ∙ rw (e, take_more bs k 0 l) (sym (digits_push (take k bs) (get_or bs k 0)))
 
--- a byte as `{:02x}` writes it
-pub written : (b : ℕ) → b < 256 → padded_integral (format_spec 32 0 4 2 (2 ^ 64 - 1)) false [] (spelled_in 16 false b) ≡ digit (b / 16) ∷ digit (b % 16) ∷ []
-unfolding digit
-written b h = hex_byte false b h
+-- the same in an array, to whose front the digits are written
+pub digits_put : (bs room : List ℕ) (k : ℕ) → k < length bs → 2 * k + 1 < length room → take (2 * k) room ≡ digits (take k bs)
+    → take (2 * (k + 1)) (slice_set (slice_set room (2 * k) (digit (get_or bs k 0 / 16))) (2 * k + 1) (digit (get_or bs k 0 % 16))) ≡ digits (take (k + 1) bs)
+digits_put bs room k l fits e =
+    let x : ℕ = digit (get_or bs k 0 / 16) in
+    let y : ℕ = digit (get_or bs k 0 % 16) in
+    let two : 2 * (k + 1) ≡ 2 * k + 1 + 1 = omega arith in
+    let size = length-set room (2 * k) x in
+    let low = take_more_set (slice_set room (2 * k) x) (2 * k + 1) y (omega (arith, size)) in
+    let high = take_more_set room (2 * k) x (omega arith) in
+    text_more bs (take (2 * k) room) _ k l e (rw (two, low, high) (append_assoc (take (2 * k) room) (x ∷ []) (y ∷ [])))
 
--- all bytes were written
-pub text_all : (bs text : List ℕ) (k : ℕ) → length bs ≤ k → (length bs ≡ 0 → ⊥) → text ≡ digits (take k bs) → text ≡ text_of bs
-text_all [] text k l ne e = absurd (ne refl)
-text_all (b ∷ bs) text k l ne e = e ∙ ap digits (take_all k (b ∷ bs) l)
+-- the digits of two parts stand behind each other
+pub digits_append : (a b : List ℕ) → digits (a ++ b) ≡ digits a ++ digits b
+digits_append [] b = refl
+digits_append (x ∷ a) b = ap (λ (l : List ℕ). digit (x / 16) ∷ digit (x % 16) ∷ l) (digits_append a b)
+
+-- digits are ASCII
+digit_ascii : (n : ℕ) → n < 16 → digit n < 128
+digit_ascii n h =
+    ⊎_elim
+    (λ (l : n < 10). let d = digit_low n l in omega arith)
+    (λ (g : 10 ≤ n). let d = digit_high n g in omega arith)
+    (cases_lt n 10)
+
+pub digits_ascii : (bs : List ℕ) → Bytes bs → IsAscii (digits bs)
+digits_ascii [] h i = omega arith
+digits_ascii (b ∷ bs) h zero = let s = h 0 in digit_ascii (b / 16) (omega arith)
+digits_ascii (b ∷ bs) h (suc zero) = digit_ascii (b % 16) (omega arith)
+digits_ascii (b ∷ bs) h (suc (suc i)) = digits_ascii bs (λ k. h (suc k)) i

@@ -15,8 +15,14 @@ pub fn answer(heap: Global, line: &str) -> Result<String, AllocError> {
 
 // The answer to a line of the right shape.
 fn parsed(heap: Global, line: &str) -> Result<Option<String>, AllocError> {
-    let words: Vec<&str> = line.split(' ').collect(heap)?;
-    let [kind, n, g, text] = words.as_slice() else {
+    let mut words = line.split(' ');
+    let (Some(kind), Some(n), Some(g), Some(text), None) = (
+        words.next(),
+        words.next(),
+        words.next(),
+        words.next(),
+        words.next(),
+    ) else {
         return Ok(None);
     };
     let (Ok(n), Ok(g)) = (n.parse::<u64>(), g.parse::<usize>()) else {

@@ -1,5 +1,6 @@
 //! What stands in a line for a message and for its parts.
 
+use hex_text::Text;
 use message::{Code, Commit, Entry, Found, Reply, Submit, ValueSlot, VersionSlot};
 use std::fmt;
 use version::{MAX_SITES, Version};
@@ -21,9 +22,9 @@ impl fmt::Display for Shown<Submit<'_>> {
             Shown(m.code),
             m.register,
             m.timestamp,
-            Shown(m.submit_signature),
+            Text(m.submit_signature),
             Shown(m.value),
-            Shown(m.data_signature)
+            Text(m.data_signature)
         )
     }
 }
@@ -36,8 +37,8 @@ impl fmt::Display for Shown<Commit<'_>> {
             "commit {} {} {} {}",
             m.site,
             Shown(m.version),
-            Shown(m.commit_signature),
-            Shown(m.proof_signature)
+            Text(m.commit_signature),
+            Text(m.proof_signature)
         )
     }
 }
@@ -50,7 +51,7 @@ impl fmt::Display for Shown<ValueSlot<'_>> {
             "value-slot {} {} {}",
             m.timestamp,
             Shown(m.value),
-            Shown(m.data_signature)
+            Text(m.data_signature)
         )
     }
 }
@@ -62,8 +63,8 @@ impl fmt::Display for Shown<VersionSlot<'_>> {
             f,
             "version-slot {} {} {}",
             Shown(m.version),
-            Shown(m.commit_signature),
-            Shown(m.proof_signature)
+            Text(m.commit_signature),
+            Text(m.proof_signature)
         )
     }
 }
@@ -77,7 +78,7 @@ impl fmt::Display for Shown<Reply<'_>> {
             Shown(m.code()),
             m.committer,
             Shown(m.version),
-            Shown(m.commit_signature)
+            Text(m.commit_signature)
         )?;
         for entry in m.entries.as_slice() {
             write!(f, " entry {}", Shown(*entry))?;
@@ -85,7 +86,7 @@ impl fmt::Display for Shown<Reply<'_>> {
         let mut rest = m.proofs;
         for _ in 0..m.version.size() {
             let (proof, behind) = rest.split_at(rest.len().min(m.commit_signature.len()));
-            write!(f, " proof {}", Shown(proof))?;
+            write!(f, " proof {}", Text(proof))?;
             rest = behind;
         }
         match m.found {
@@ -104,7 +105,7 @@ impl fmt::Display for Shown<Entry<'_>> {
             m.site,
             Shown(m.code),
             m.register,
-            Shown(m.signature)
+            Text(m.signature)
         )
     }
 }
@@ -116,10 +117,10 @@ impl fmt::Display for Shown<Found<'_>> {
             f,
             "{} {} {} {} {}",
             Shown(m.version),
-            Shown(m.commit_signature),
+            Text(m.commit_signature),
             m.timestamp,
             Shown(m.value),
-            Shown(m.data_signature)
+            Text(m.data_signature)
         )
     }
 }
@@ -137,27 +138,15 @@ impl fmt::Display for Shown<Version> {
     fn fmt<W: fmt::Write>(&self, f: &mut fmt::Formatter<W>) -> fmt::Result {
         let mut room = [0; VERSION_SIZE];
         let size = self.0.write(&mut room).unwrap_or(0).min(VERSION_SIZE);
-        write!(f, "{}", Shown(&room[..size]))
+        write!(f, "{}", Text(&room[..size]))
     }
 }
 
 impl fmt::Display for Shown<Option<&[u8]>> {
     fn fmt<W: fmt::Write>(&self, f: &mut fmt::Formatter<W>) -> fmt::Result {
         match self.0 {
-            Some(value) => write!(f, "{}", Shown(value)),
+            Some(value) => write!(f, "{}", Text(value)),
             None => write!(f, "absent"),
         }
-    }
-}
-
-impl fmt::Display for Shown<&[u8]> {
-    fn fmt<W: fmt::Write>(&self, f: &mut fmt::Formatter<W>) -> fmt::Result {
-        if self.0.is_empty() {
-            return write!(f, ".");
-        }
-        for byte in self.0 {
-            write!(f, "{byte:02x}")?;
-        }
-        Ok(())
     }
 }
