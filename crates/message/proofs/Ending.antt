@@ -1,5 +1,5 @@
 -- From the fields of a message to the whole of it.
-use Rattle.std.proofs.Common.{ℕ, List, Ok, Err, Result, ◌∙◌, Bor}
+use Rattle.std.proofs.Common.{ℕ, List, IfOk, Ok, Err, Result, ◌∙◌, Bor}
 use Rattle.octets.specs.declared.BadField.{BadField}
 use Rattle.octets.specs.Field.{Field, Undoes}
 use Rattle.octets.specs.Numbers.{Bytes}
@@ -26,6 +26,13 @@ module _ {M A : Type 0} (f : Field A) (of : M → A) (bs : List ℕ) where
   in_group n (Err ValueTooLong) s h = h
   in_group n (Err (BadAt offset)) s h = (s, h)
   in_group n (Err BufferTooShort) s h = h
+
+-- what is known of the message whose fields were read
+pub ended_known : {M : Type 0} (Known : M → Type 0) (bs : List ℕ) (got : Result (M × Bor (List ℕ)) BadField) (r : Result M Refusal) → Ended bs got r → IfOk got (λ p. Known p.0) → IfOk r Known
+ended_known Known bs (Ok p) (Ok m) e k = rw e.1 k
+ended_known Known bs (Ok p) (Err r) e k = tt
+ended_known Known bs (Err b) (Ok m) e k = absurd e
+ended_known Known bs (Err b) (Err r) e k = tt
 
 pub reads_whole : {M A : Type 0} (n : ℕ) (f : Field A) (of : M → A) (bs : List ℕ) (got : Result (M × Bor (List ℕ)) BadField) (r : Result M Refusal)
     → Undoes f → Bytes bs → Size n → Gets f of bs got → Ended bs got r → Reads n f of bs r

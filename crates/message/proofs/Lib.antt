@@ -1,7 +1,9 @@
 pub mod Laws
 mod Ending
 mod Joining
+mod Placed
 mod Placing
+mod ReplyPlaced
 mod Replying
 pub mod Tags
 mod Writing

@@ -3,11 +3,13 @@ pub mod Commit
 pub mod Fields
 pub mod Heads
 pub mod Kind
+pub mod Placed
 pub mod Places
 pub mod Reads
 pub mod Refusals
 pub mod Replied
 pub mod Reply
+pub mod ReplyPlaced
 pub mod Slots
 pub mod Strings
 pub mod Submit

@@ -17,7 +17,8 @@ use super::whole::{whole, zero};
 use octets::{BadField, take_span};
 use version::Version;
 
-/// What a site tells the host after an operation.
+/// What a site tells the host after an operation. Its parts are slices of the bytes that were read; `places` gives their places,
+/// which borrow nothing.
 #[derive(Clone, Copy)]
 pub struct Commit<'a> {
     pub site: u8,

@@ -1,6 +1,6 @@
 //! A reply: what the host answers to a submit.
 
-ghost use Rattle.std.specs.Prelude.{◌≡◌, ◌≤◌, length, take, IfOk};
+ghost use Rattle.std.specs.Prelude.{◌≡◌, ◌*◌, ◌≤◌, length, take, IfOk};
 ghost use Rattle.octets.specs.Field.{Undoes, span, times};
 ghost use Rattle.octets.specs.Reads.{Gets};
 ghost use Rattle.std.specs.Option.{option_map};
@@ -54,7 +54,7 @@ pub struct Found<'a> {
 }
 
 /// What the host answers to a submit: to a read with what was found, to a write without. The proof signatures of the sites stand
-/// one behind the other in `proofs`.
+/// one behind the other in `proofs`. Its parts are slices of the bytes that were read; `places` gives their places, which borrow nothing.
 #[derive(Clone, Copy)]
 pub struct Reply<'a> {
     pub committer: u8,
@@ -119,7 +119,8 @@ fn take_listed(bytes: &[u8], count: u8, n: u8, g: usize) -> Result<(Entries<'_>,
 
 // The proof signatures of all sites.
 fn take_proofs(bytes: &[u8], n: u8, g: usize) -> Result<(&[u8], &[u8]), BadField>
-    ensures { Gets (times n (span g)) (λ p. signatures g p.now n 0) bytes.now result }
+    ensures got { Gets (times n (span g)) (λ p. signatures g p.now n 0) bytes.now result }
+    ensures sized { IfOk result (λ p. length p.0.now ≡ g * n) }
 {
     let mut rest = bytes;
     for _ in 0..n {
@@ -160,7 +161,8 @@ fn take_found(
 }
 
 fn take_reply(bytes: &[u8], zero: Version, g: usize) -> Result<(Reply<'_>, &[u8]), BadField>
-    ensures { Gets (reply_field (length (slots zero)) g) (response g (length (slots zero))) bytes.now result }
+    ensures got { Gets (reply_field (length (slots zero)) g) (response g (length (slots zero))) bytes.now result }
+    ensures sized { IfOk result (λ p. length p.0.proofs.now ≡ g * length (slots zero)) }
 {
     let n = zero.size();
     let ((code, committer), rest) = take_reply_head(bytes, n)?;
@@ -187,6 +189,7 @@ impl<'a> Reply<'a> {
     pub fn read(n: u8, g: usize, bytes: &'a [u8]) -> Result<Reply<'a>, Refusal>
         ensures reads { Reads n (reply_field n g) (response g n) bytes.now result }
         ensures placed { IfOk result (λ m. FoundBefore g bytes.now m.found) }
+        ensures sized { IfOk result (λ m. length m.proofs.now ≡ g * n) }
         ensures undoes { Undoes (reply_field n g) }
     {
         let zero = zero(n)?;

@@ -15,7 +15,8 @@ use super::whole::{whole, zero};
 use octets::{BadField, take_number, take_span};
 use version::Version;
 
-/// What a host keeps of a site's last submit.
+/// What a host keeps of a site's last submit. Its parts are slices of the bytes that were read; `places` gives their places,
+/// which borrow nothing.
 #[derive(Clone, Copy)]
 pub struct ValueSlot<'a> {
     pub timestamp: u32,
@@ -23,7 +24,8 @@ pub struct ValueSlot<'a> {
     pub data_signature: &'a [u8],
 }
 
-/// What a host keeps of a site's last commit.
+/// What a host keeps of a site's last commit. Its parts are slices of the bytes that were read; `places` gives their places,
+/// which borrow nothing.
 #[derive(Clone, Copy)]
 pub struct VersionSlot<'a> {
     pub version: Version,

@@ -16,7 +16,7 @@ use super::refusal::Refusal;
 use super::whole::{whole, zero};
 use octets::{BadField, take_number, take_span};
 
-/// What a site asks of the host.
+/// What a site asks of the host. Its parts are slices of the bytes that were read; `places` gives their places, which borrow nothing.
 #[derive(Clone, Copy)]
 pub struct Submit<'a> {
     pub site: u8,

@@ -23,4 +23,4 @@ returns c =
     let s : length bs - length c.loop.rest.now ≡ g * c.loop.counter = omega arith in
     let l = left_all (span g) n bs c.loop.counter _ c.loop.rest.now (omega arith) c.loop.invariant.left in
     let front : signatures g c.split_at.result.0.now n 0 ≡ signatures g bs n 0 = rw (c.split_at.ensures.front, s, k) (signatures_front g n (g * n) bs (omega arith)) in
-    l ∙ rw (front, k, c.split_at.ensures.back, s, r)
+    record { got = l ∙ rw (front, k, c.split_at.ensures.back, s, r); sized = c.split_at.ensures.front_len ∙ s ∙ ap (λ m. g * m) k }
