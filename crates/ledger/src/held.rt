@@ -16,8 +16,12 @@ impl Entry {
         requires short { length text.now ≤ max_text }
         ensures { held result ≡ signing site text.now }
     {
-        let text = ArrayVec::try_from(text).unwrap();
-        Entry { site, text }
+        let mut entry = Entry {
+            site,
+            text: ArrayVec::new(),
+        };
+        entry.text.try_extend_from_slice(text).unwrap();
+        entry
     }
 
     /// Whether this is an entry of `site` and `text`.

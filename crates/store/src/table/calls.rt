@@ -1,12 +1,11 @@
-ghost use Rattle.std.specs.Prelude.{◌≡◌, IfOk};
+ghost use Rattle.std.specs.Prelude.{◌≡◌, ◌≤◌, length, IfOk};
 ghost use Rattle.store.specs.Calls.{Site, Replaced};
-ghost use Rattle.store.specs.Limits.{max_left};
+ghost use Rattle.store.specs.Limits.{max_slot, max_left};
 ghost use Rattle.store.specs.Meaning.{Empty};
 ghost use Rattle.store.specs.Table.{table_meaning};
 ghost use Rattle.store.specs.Slots.{table_sound};
 
 use super::Table;
-use super::held::Held;
 use super::pair::Pair;
 use crate::check::{check_site, check_write};
 use crate::fault::Fault;
@@ -34,11 +33,12 @@ impl Table {
     }
 
     // Puts other bytes into a slot.
-    fn refill(&mut self, slot: Slot, site: u8, held: Held)
-        requires { Site site }
-        ensures { Replaced (table_meaning self.old) slot site held.bytes.items (table_meaning self.new) }
+    fn refill(&mut self, slot: Slot, site: u8, bytes: &[u8])
+        requires known { Site site }
+        requires short { length bytes.now ≤ max_slot }
+        ensures { Replaced (table_meaning self.old) slot site bytes.now (table_meaning self.new) }
     {
-        self.sites[usize::from(site) - 1].put(slot, held);
+        self.sites[usize::from(site) - 1].put(slot, bytes);
     }
 }
 
@@ -60,7 +60,7 @@ impl Store for Table {
 
     fn write(&mut self, slot: Slot, site: u8, bytes: &[u8]) -> Result<(), Fault> {
         check_write(site, bytes, self.left())?;
-        self.refill(slot, site, Held::of(bytes));
+        self.refill(slot, site, bytes);
         Ok(())
     }
 }

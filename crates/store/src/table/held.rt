@@ -1,4 +1,4 @@
-ghost use Rattle.std.specs.Prelude.{◌≡◌, ◌≤◌, length};
+ghost use Rattle.std.specs.Prelude.{◌≡◌, ◌≤◌, [], length};
 ghost use Rattle.octets.specs.Numbers.{Bytes};
 ghost use Rattle.store.specs.Limits.{max_slot};
 
@@ -14,12 +14,25 @@ pub(super) struct Held {
 }
 
 impl Held {
-    pub(super) fn of(bytes: &[u8]) -> Held
-        requires { length bytes.now ≤ max_slot }
-        ensures { result.bytes.items ≡ bytes.now }
+    pub(super) fn nothing() -> Held
+        ensures { result.bytes.items ≡ [] }
     {
         Held {
-            bytes: ArrayVec::try_from(bytes).unwrap(),
+            bytes: ArrayVec::new(),
         }
+    }
+
+    /// Puts other bytes in place of those held.
+    pub(super) fn refill(&mut self, bytes: &[u8])
+        requires { length bytes.now ≤ max_slot }
+        ensures { self.new.bytes.items ≡ bytes.now }
+    {
+        // Those of the same length need no blanks first, which `clear` writes.
+        if bytes.len() == self.bytes.len() {
+            self.bytes.as_mut_slice().copy_from_slice(bytes);
+            return;
+        }
+        self.bytes.clear();
+        self.bytes.try_extend_from_slice(bytes).unwrap();
     }
 }

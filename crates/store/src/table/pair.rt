@@ -1,6 +1,7 @@
 //! The slots of one site.
 
-ghost use Rattle.std.specs.Prelude.{◌≡◌};
+ghost use Rattle.std.specs.Prelude.{◌≡◌, ◌≤◌, length};
+ghost use Rattle.store.specs.Limits.{max_slot};
 ghost use Rattle.store.specs.Pair.{bytes_in, Blank, Put};
 
 use super::held::Held;
@@ -19,8 +20,8 @@ impl Pair {
         ensures { Blank result }
     {
         Pair {
-            value: Held::of(&[]),
-            version: Held::of(&[]),
+            value: Held::nothing(),
+            version: Held::nothing(),
         }
     }
 
@@ -35,12 +36,13 @@ impl Pair {
     }
 
     /// Puts other bytes into a slot.
-    pub(super) fn put(&mut self, slot: Slot, held: Held)
-        ensures { Put self.old slot held.bytes.items self.new }
+    pub(super) fn put(&mut self, slot: Slot, bytes: &[u8])
+        requires { length bytes.now ≤ max_slot }
+        ensures { Put self.old slot bytes.now self.new }
     {
         match slot {
-            Slot::Value => self.value = held,
-            Slot::Version => self.version = held,
+            Slot::Value => self.value.refill(bytes),
+            Slot::Version => self.version.refill(bytes),
         }
     }
 }
