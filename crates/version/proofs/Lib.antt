@@ -2,3 +2,4 @@ pub mod SlotLaws
 pub mod OrderLaws
 pub mod LayoutLaws
 mod Writing
+mod OnePass

@@ -79,8 +79,10 @@ equal u v = Decides-like ((version_eq.eq-value).it u v) (λ h. at_or_below_laws.
     all : (u v : Version) → slots u ≡ slots v → AllUnder u v
     all u v s = (tested u v).0 ((placed u v).1 (subst (AtOrBelow (slots u)) s (at_or_below_laws.reflexive (slots u))))
 
-pub stands_by : (u v : Version) (below above : Bool) → under u v ≡ below → under v u ≡ above → Stands AtOrBelow (slots u) (slots v) (order_of (both_ways below above))
-stands_by u v below above e f = stands at_or_below_laws (slots u) (slots v) below above (rw e at (placed u v)) (rw f at (placed v u))
+-- what the comparison tells of two versions
+pub compared_stands : (u v : Version) → Stands AtOrBelow (slots u) (slots v) (order_of (compared u v))
+unfolding compared
+compared_stands u v = stands at_or_below_laws (slots u) (slots v) (under u v) (under v u) (placed u v) (placed v u)
 
 pub examples : Examples
 examples = record {

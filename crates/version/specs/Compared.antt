@@ -5,7 +5,7 @@ use Rattle.std.specs.declared.cmp.Ordering.{Ordering}
 use Rattle.std.specs.declared.cmp.Ordering.TheVariants.{Less, Equal, Greater}
 use Rattle.std.specs.Ordering.{nat_cmp, partial_le, partial_ordering_then}
 use Rattle.std.specs.Str.{bytes_eq}
-use Rattle.std.specs.List.{list_all, zip}
+use Rattle.std.specs.List.{fold, list_all, zip}
 use Rattle.version.specs.declared.seen.Seen.{Seen}
 use Rattle.version.specs.declared.version.Version.{Version}
 
@@ -30,3 +30,14 @@ both_ways false false = None
 
 unfoldable pub compared : Version → Version → Option Ordering
 compared u v = both_ways (under u v) (under v u)
+
+-- whether each is at or below the other, at one place more
+abbrev pub and_here : Bool × Bool → Option Ordering → Bool × Bool
+and_here so_far (Some Less) = (so_far.0, false)
+and_here so_far (Some Equal) = (so_far.0, so_far.1)
+and_here so_far (Some Greater) = (false, so_far.1)
+and_here so_far None = (false, false)
+
+-- whether each slot on the left is at or below the one on the right, and each on the right at or below the one on the left
+abbrev pub both_below : List (Option Seen) → List (Option Seen) → Bool × Bool
+both_below xs ys = fold (λ so_far p. and_here so_far (option_partial_cmp seen_cmp p.0 p.1)) (true, true) (zip xs ys)

@@ -2,13 +2,14 @@
 
 ghost use Rattle.std.specs.Prelude.{◌≡◌};
 ghost use Rattle.version.specs.Calls.{Compares};
-ghost use Rattle.version.specs.Compared.{compared, under};
+ghost use Rattle.version.specs.Compared.{both_below, both_ways, compared};
 ghost use Rattle.version.specs.Examples.{Examples};
 ghost use Rattle.version.specs.Order.{PartialOrder, AtOrBelow, Stands, order_of};
 ghost use Rattle.version.specs.Version.{OneForm, slots};
 
 use super::order::Order;
 use super::refusal::Refusal;
+use super::seen::Seen;
 use super::version::Version;
 use std::cmp::Ordering;
 
@@ -28,12 +29,6 @@ impl Version {
         }
         Ok(Order::from(self.partial_cmp(other)))
     }
-
-    fn is_at_or_below(&self, other: &Version) -> bool
-        ensures { result ≡ under self.now other.now }
-    {
-        self.size == other.size && self.seen.iter().zip(other.seen.iter()).all(|(a, b)| a <= b)
-    }
 }
 
 impl PartialOrd for Version {
@@ -44,16 +39,43 @@ impl PartialOrd for Version {
     ghost laws = { version_order };
 
     /// `None` where neither is at or below the other, as where the groups are of different sizes.
-    #[tactic(auto, unfolding(crate::specs::Compared::compared))]
     fn partial_cmp(&self, other: &Version) -> Option<Ordering>
         ensures value { result ≡ compared self.now other.now }
         ensures stands { Stands AtOrBelow (slots self.now) (slots other.now) (order_of result) }
     {
-        match (self.is_at_or_below(other), other.is_at_or_below(self)) {
-            (true, true) => Some(Ordering::Equal),
-            (true, false) => Some(Ordering::Less),
-            (false, true) => Some(Ordering::Greater),
-            (false, false) => None,
+        if self.size != other.size {
+            return None;
         }
+        let size = self.size as usize;
+        let (below, above) = both_below(&self.seen[..size], &other.seen[..size]);
+        both_ways(below, above)
+    }
+}
+
+// Whether each slot on the left is at or below the one on the right, and each on the right at or below the one on the
+// left. Each place is looked at once.
+fn both_below(left: &[Option<Seen>], right: &[Option<Seen>]) -> (bool, bool)
+    ensures { result ≡ both_below left.now right.now }
+{
+    left.iter().zip(right).fold(
+        (true, true),
+        |(below, above), (a, b)| match a.partial_cmp(b) {
+            Some(Ordering::Less) => (below, false),
+            Some(Ordering::Equal) => (below, above),
+            Some(Ordering::Greater) => (false, above),
+            None => (false, false),
+        },
+    )
+}
+
+// The answer, where it is known whether each is at or below the other.
+fn both_ways(below: bool, above: bool) -> Option<Ordering>
+    ensures { result ≡ both_ways below above }
+{
+    match (below, above) {
+        (true, true) => Some(Ordering::Equal),
+        (true, false) => Some(Ordering::Less),
+        (false, true) => Some(Ordering::Greater),
+        (false, false) => None,
     }
 }

@@ -1,15 +1,18 @@
-use Rattle.std.proofs.Common.{true, false, sym}
-use Rattle.version.proofs.OrderLaws.{stands_by}
+use Rattle.std.proofs.Common.{◌∙◌}
+use Rattle.version.proofs.OnePass.{one_pass_compared, sizes_differ}
+use Rattle.version.proofs.OrderLaws.{compared_stands}
 use Rattle.version.proofs.compare.VersionPartialOrd.partial_cmp.Goals as goal
 
-pub returns-in-true-true-clause-stands : goal.returns-in-true-true-clause-stands
-returns-in-true-true-clause-stands c = stands_by c.args.self.now c.args.other.now true true (sym c.in-true-true.ensures) (sym c.in-true-true.ensures')
+pub returns-then-self-other : goal.returns-then-self-other
+returns-then-self-other c =
+    let u = c.args.self.now in
+    let v = c.args.other.now in
+    let e = sizes_differ u v c.if-self-other.true in
+    record { value = e; stands = rw (← e) at (compared_stands u v) }
 
-pub returns-in-true-false-clause-stands : goal.returns-in-true-false-clause-stands
-returns-in-true-false-clause-stands c = stands_by c.args.self.now c.args.other.now true false (sym c.in-true-false.ensures) (sym c.in-true-false.ensures')
-
-pub returns-in-false-true-clause-stands : goal.returns-in-false-true-clause-stands
-returns-in-false-true-clause-stands c = stands_by c.args.self.now c.args.other.now false true (sym c.in-false-true.ensures) (sym c.in-false-true.ensures')
-
-pub returns-in-false-false-clause-stands : goal.returns-in-false-false-clause-stands
-returns-in-false-false-clause-stands c = stands_by c.args.self.now c.args.other.now false false (sym c.in-false-false.ensures) (sym c.in-false-false.ensures')
+pub returns : goal.returns
+returns c =
+    let u = c.args.self.now in
+    let v = c.args.other.now in
+    let e = c.both_ways.ensures ∙ one_pass_compared u v c.both_below-below.result c.if-self-other.false c.both_below-below.ensures in
+    record { value = e; stands = rw e (compared_stands u v) }
